@@ -25,8 +25,8 @@ module _ (keep : CyclesKeep) where
 
   pub step_takes : (g : Setting) (a b : Stage) → Follows g a b → a.machine.clock < b.machine.clock
   step_takes g a b f =
-      let ends = ap (λ (m : machine.State). m.clock) (f.comes.ran []) in
-      let is = ap (λ (m : machine.State). m.clock) f.new_is in
+      let ends = ap (λ (m : machine.MachineState). m.clock) (f.comes.ran []) in
+      let is = ap (λ (m : machine.MachineState). m.clock) f.new_is in
       omega (arith, ends, is, clock_after f.comes.cycles (begun a.machine (f.comes.answers ++ [])), f.comes.positive)
 
 -- ---- numbers that rise

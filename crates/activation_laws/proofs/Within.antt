@@ -32,7 +32,7 @@ few_frames P n (f ∷ fs) are =
     omega (arith, here, few_frames P n fs are.1, sum_by-cons (frame_words P) f fs)
 
 module _ (fit : FittingStatesAreWellFormed) (g : Setting) (is : IsSetting g) where
-  frames_few : (m : machine.State) (s : State) → Stands g m s → length s.frames ≤ g.chip
+  frames_few : (m : machine.MachineState) (s : State) → Stands g m s → length s.frames ≤ g.chip
   frames_few m s stands =
       let w = fit g.program g.types (limits g) is.typed s stands.fits in
       omega (arith, few_frames g.program (length s.objects) s.frames w.frames, w.frame_sum)

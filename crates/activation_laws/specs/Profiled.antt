@@ -5,7 +5,7 @@ use Rattle.run_follower.specs.declared.here.Here.{Here}
 use Rattle.activation_watch.specs.declared.activation.Activation.{Activation}
 use Rattle.activation_watch.specs.declared.profile.Profile.{Profile}
 use Rattle.activation_watch.specs.Watched.{activations, of_method, profile_of}
-use Rattle.activation_watch.specs.Promises.{AreWithin}
+use Rattle.activation_watch.specs.Promises.{AreCountsWithin}
 use Rattle.method_flow.specs.declared.timing.Timing.{Timing}
 use Rattle.method_flow.specs.Keeping.{BoundOf}
 use Rattle.activations.specs.Setting.{Setting, IsSetting, Stands}
@@ -25,7 +25,7 @@ LastStands g (a ∷ b ∷ stages) = LastStands g (b ∷ stages)
 abbrev pub SeenAreWithin : Type 0
 SeenAreWithin =
     (g : Setting) (stages : List Stage) (heres : List Here) → IsSetting g → AreSeen g stages heres → LastStands g stages
-    → All (λ (h : Here). (h.clock < 2 ^ 64) × (h.misses < 2 ^ 64)) heres → AreWithin g.chip heres
+    → All (λ (h : Here). (h.clock < 2 ^ 64) × (h.misses < 2 ^ 64)) heres → AreCountsWithin g.chip heres
 
 -- ---- the bounds
 

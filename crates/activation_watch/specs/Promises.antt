@@ -14,7 +14,7 @@ abbrev pub begins_below : ℕ → Activation → Bool
 begins_below frames x = nat_lt x.begun.frames frames
 
 -- Boundaries with at most so many frames, of which the counts of cycles and of misses, and their own number, fit 64 bits.
-pub record AreWithin (most : ℕ) (heres : List Here) : Type 0 where
+pub record AreCountsWithin (most : ℕ) (heres : List Here) : Type 0 where
   pub frames : All (λ (a : Here). a.frames ≤ most) heres
   pub clocks : All (λ (a : Here). a.clock < 2 ^ 64) heres
   pub misses : All (λ (a : Here). a.misses < 2 ^ 64) heres
@@ -30,7 +30,7 @@ SlotsAreTold = (main frames : ℕ) (ls : List ℕ) (heres : List Here)
     → counted main ls frames heres ≡ capped_slots (slots_from main 0 ls (filter (begins_below frames) (activations heres)))
 
 abbrev pub SlotsAreExact : Type 0
-SlotsAreExact = (main frames : ℕ) (ls : List ℕ) (heres : List Here) → AreWithin frames heres → All (λ l. l < 2 ^ 64) ls
+SlotsAreExact = (main frames : ℕ) (ls : List ℕ) (heres : List Here) → AreCountsWithin frames heres → All (λ l. l < 2 ^ 64) ls
     → counted main ls frames heres ≡ slots_of main ls heres
 
 -- ---- totals of methods
@@ -46,7 +46,7 @@ ProfilesAreTold = (methods frames : ℕ) (heres : List Here) (m : ℕ) → m < m
     → slice_get (rows_of methods frames heres) m ≡ Some (capped_profile (profile_of (of_method m (filter (begins_below frames) (activations heres)))))
 
 abbrev pub ProfilesAreExact : Type 0
-ProfilesAreExact = (methods frames : ℕ) (heres : List Here) → AreWithin frames heres → (m : ℕ) → m < methods
+ProfilesAreExact = (methods frames : ℕ) (heres : List Here) → AreCountsWithin frames heres → (m : ℕ) → m < methods
     → slice_get (rows_of methods frames heres) m ≡ Some (profile_of (of_method m (activations heres)))
 
 -- clocks of 64 bits that rise are few

@@ -37,7 +37,7 @@ use Rattle.activations.specs.Timing.{HasTiming}
 
 -- ---- the machine
 
-same_sizes : (s : machine.State) → KeepsSizes s s
+same_sizes : (s : machine.MachineState) → KeepsSizes s s
 same_sizes s = record { stack = refl; memory = refl; read = refl; write = refl; blocks = refl; block_words = refl }
 
 module _ (keep : CyclesKeep) where
@@ -53,18 +53,18 @@ module _ (keep : CyclesKeep) where
       record { stack = y.stack ∙ x.stack; memory = y.memory ∙ x.memory; read = y.read ∙ x.read; write = y.write ∙ x.write; blocks = y.blocks ∙ x.blocks; block_words = y.block_words ∙ x.block_words }
 
   sizes_of : (g : Setting) (a b : Stage) → Follows g a b → KeepsSizes a.machine b.machine
-  sizes_of g a b f = subst (λ (m : machine.State). KeepsSizes a.machine m) (f.comes.ran [] ∙ f.new_is) (sizes_after f.comes.cycles (begun a.machine (f.comes.answers ++ [])))
+  sizes_of g a b f = subst (λ (m : machine.MachineState). KeepsSizes a.machine m) (f.comes.ran [] ∙ f.new_is) (sizes_after f.comes.cycles (begun a.machine (f.comes.answers ++ [])))
 
   clock_of : (g : Setting) (a b : Stage) (f : Follows g a b) → b.machine.clock ≡ a.machine.clock + (f.comes.micro + f.comes.stall)
   clock_of g a b f =
-      let ends = ap (λ (m : machine.State). m.clock) (f.comes.ran []) in
-      let is = ap (λ (m : machine.State). m.clock) f.new_is in
+      let ends = ap (λ (m : machine.MachineState). m.clock) (f.comes.ran []) in
+      let is = ap (λ (m : machine.MachineState). m.clock) f.new_is in
       let sum = f.comes.sum in
       omega (arith, clock_after f.comes.cycles (begun a.machine (f.comes.answers ++ [])))
 
 -- ---- the look-up
 
-module _ (g : Setting) (t : Timing) (words : ℕ → List ℕ) (are : AreWords g.program g.places words) (old new : machine.State) (timing : HasTiming t old) (stall : ℕ) where
+module _ (g : Setting) (t : Timing) (words : ℕ → List ℕ) (are : AreWords g.program g.places words) (old new : machine.MachineState) (timing : HasTiming t old) (stall : ℕ) where
   -- what the look-ups of these do
   record LookedUp (ls : List ℕ) : Type 0 where
     stalls : stall ≡ stall_of_loads words t.read ls old.cache
@@ -96,14 +96,14 @@ module _ (g : Setting) (t : Timing) (words : ℕ → List ℕ) (are : AreWords g
 
 -- ---- the costs
 
-same_params : (t : Timing) (m : machine.State) → HasTiming t m → (pairs entries : ℕ) → params t pairs entries ≡ of_machine m pairs entries
+same_params : (t : Timing) (m : machine.MachineState) → HasTiming t m → (pairs entries : ℕ) → params t pairs entries ≡ of_machine m pairs entries
 same_params t m h pairs entries = ap (λ (x : ℕ). record { r = x; w = t.write; pairs = pairs; entries = entries }) (sym h.read) ∙ ap (λ (x : ℕ). record { r = m.port.read; w = x; pairs = pairs; entries = entries }) (sym h.write)
 
 on_some : {A : Type 0} (K L : A → Type 0) (o : Option A) → ((x : A) → K x → L x) → IsSomeAnd o K → IsSomeAnd o L
 on_some K L None h k = absurd k
 on_some K L (Some x) h k = h x k
 
-frame_cost : (P : Program) (t : Timing) (m : machine.State) → HasTiming t m → (mode : Ending) → IsGoing mode → (f : Frame) (c : ℕ) → IsOwnCost P t f.method (node_of mode f) c → IsSomeAnd (body_of P f.method) (λ b. IsFrameCost P m mode f b c)
+frame_cost : (P : Program) (t : Timing) (m : machine.MachineState) → HasTiming t m → (mode : Ending) → IsGoing mode → (f : Frame) (c : ℕ) → IsOwnCost P t f.method (node_of mode f) c → IsSomeAnd (body_of P f.method) (λ b. IsFrameCost P m mode f b c)
 frame_cost P t m h Running going f c own =
     on_some _ _ (body_of P f.method) (λ b k. on_some _ _ (instr_at P f.method f.pc) (λ i cost. subst (λ (x : CostParams). IsCost (u1 b.code f.pc) x c) (same_params t m h i.count 0) cost) k) own
 frame_cost P t m h (Raising p) going f c own = on_some _ _ (body_of P f.method) (λ b cost. subst (λ (x : CostParams). IsRaiseCost x c) (same_params t m h 0 (length b.handlers)) cost) own
@@ -201,7 +201,7 @@ shape_of shapes fitting g a b is fo f callers frames =
 pub steps_are_told : CyclesKeep → StepsHaveShapes → FittingStatesAreWellFormed → StepsAreTold
 steps_are_told keep shapes fitting g t words a b is are timing fo =
     let sizes = sizes_of keep g a b fo in
-    let found = looks g t words are a.machine b.machine timing fo.comes.stall (found_by a.state b.state) (subst (λ (m : machine.State). LooksUp g.program g.places (found_by a.state b.state) a.machine m fo.comes.stall) fo.new_is fo.comes.look_up) in
+    let found = looks g t words are a.machine b.machine timing fo.comes.stall (found_by a.state b.state) (subst (λ (m : machine.MachineState). LooksUp g.program g.places (found_by a.state b.state) a.machine m fo.comes.stall) fo.new_is fo.comes.look_up) in
     record {
       micro = fo.comes.micro;
       clock = clock_of keep g a b fo ∙ ap (λ (x : ℕ). a.machine.clock + (fo.comes.micro + x)) found.stalls;

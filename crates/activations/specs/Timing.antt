@@ -4,7 +4,7 @@ use Rattle.jop_core.specs.State as machine
 use Rattle.method_flow.specs.declared.timing.Timing.{Timing}
 
 -- the machine has these waits, and a method cache of these sizes
-pub record HasTiming (t : Timing) (m : machine.State) : Type 0 where
+pub record HasTiming (t : Timing) (m : machine.MachineState) : Type 0 where
   pub read : m.port.read ≡ t.read
   pub write : m.port.write ≡ t.write
   pub blocks : m.cache.blocks ≡ t.blocks

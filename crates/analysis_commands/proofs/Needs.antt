@@ -3,7 +3,7 @@ use Rattle.std.proofs.Common.{◌≡◌, ℕ, List, Some, sym, subst}
 use Rattle.std.specs.Prelude.{slice_get, Result, Ok, Err, IfOk, IfErr}
 use Rattle.std.proofs.Math.Path.{fun_ext}
 use Rattle.class_pool.specs.declared.class.ClassFile.{ClassFile}
-use Rattle.program_tables.specs.Resolved.{resolved}
+use Rattle.program_tables.specs.Resolved.{resolved, method_name}
 use Rattle.bytecode_model.specs.Program.{Program}
 use Rattle.loop_bounds.specs.Bounds.{LoopBound}
 use Rattle.loop_bounds.specs.Grammar.{IsRead, IsReadLengths}
@@ -16,7 +16,7 @@ use Rattle.memory_bound.specs.Causes.{IsNeedFault}
 use Rattle.analysis_commands.specs.declared.memory.Given.{Given}
 use Rattle.analysis_commands.specs.declared.memory.MemoryRefusal.{MemoryRefusal}
 use Rattle.analysis_commands.specs.declared.memory.MemoryRefusal.TheVariants as refusals
-use Rattle.analysis_commands.specs.Analysis.{name_of, bounds_of, named_or_number}
+use Rattle.analysis_commands.specs.Analysis.{bounds_of, named_or_number}
 use Rattle.analysis_commands.specs.Answers.{table_name}
 use Rattle.analysis_commands.specs.Memory.{IsGivenBy, IsBadSizes, IsBadText, IsNoNeedBy, IsNeedBy, IsNotMetBy, IsNeed, IsMemoryRefusal}
 use Rattle.analysis_commands.proofs.Lifting.{bounds_same, named}
@@ -51,7 +51,7 @@ not_met P bounds lengths name fault (refusals.TwiceBound line) is h = absurd h
 not_met P bounds lengths name fault (refusals.BadSizes line) is h = absurd h
 not_met P bounds lengths name fault (refusals.TwiceSize line) is h = absurd h
 
-module _ (cs : List ClassFile) (f : Flow) (flow : IsFlowOf (resolved cs) f) (names : (m : ℕ) (k : Coded) → slice_get f.methods m ≡ Some k → k.name ≡ name_of cs m) (given : Given) where
+module _ (cs : List ClassFile) (f : Flow) (flow : IsFlowOf (resolved cs) f) (names : (m : ℕ) (k : Coded) → slice_get f.methods m ≡ Some k → k.name ≡ method_name cs m) (given : Given) where
   -- what is said with the table's bounds and names is said with the program's
   moved : (Q : BoundOf → BoundOf → (ℕ → List ℕ) → Type 0) → Q (table.bounds_of f given.bounds) (table.bounds_of f given.lengths) (table_name f)
       → Q (bounds_of cs given.bounds) (bounds_of cs given.lengths) (named_or_number cs)

@@ -32,11 +32,11 @@ use Rattle.analysis_commands.specs.declared.shapes.ShapeBound.{ShapeBound}
 use Rattle.analysis_commands.specs.declared.shapes.ShapeBound.TheVariants as found
 use Rattle.analysis_commands.specs.Analysis.{EachFits, timing_of, bounds_of, IsAnalysisFault}
 use Rattle.analysis_commands.specs.Bounding.{MethodHasName, cause_of, IsForbidden, IsNotBounded}
-use Rattle.analysis_commands.specs.Shapes.{IsShape, with_shape, shape_with, widest, block_sizes, block_counts, all_shapes, shape_line, shape_lines, of_shape, IsShapeBound, AreLinesOfShapes, IsShapeRefusal}
+use Rattle.analysis_commands.specs.Shapes.{IsSettingsShape, with_shape, shape_with, widest, block_sizes, block_counts, all_shapes, shape_line, shape_lines, of_shape, IsShapeBound, AreLinesOfShapes, IsShapeRefusal}
 
 -- ---- settings
 
-pub shaped : (s : Settings) (shape : Shape) → AreSettings s → IsShape shape → AreSettings (with_shape s shape)
+pub shaped : (s : Settings) (shape : Shape) → AreSettings s → IsSettingsShape shape → AreSettings (with_shape s shape)
 shaped s shape are is = record {
   cycles = are.cycles;
   stack = are.stack;
@@ -55,18 +55,18 @@ shaped s shape are is = record {
 abbrev IsSize : (most size : ℕ) → Type 0
 IsSize most size = (1 ≤ size) × (size ≤ most)
 
-row : (size : ℕ) (counts : List ℕ) → IsSize 1024 size → AllByRecursion (IsSize 256) counts → All IsShape (map (shape_with size) counts)
-row size [] is are = All-nil IsShape
+row : (size : ℕ) (counts : List ℕ) → IsSize 1024 size → AllByRecursion (IsSize 256) counts → All IsSettingsShape (map (shape_with size) counts)
+row size [] is are = All-nil IsSettingsShape
 row size (n ∷ counts) is are =
-    let here : IsShape (shape_with size n) = record { blocks_least = are.0.0; blocks_most = are.0.1; words_least = is.0; words_most = is.1 } in
-    All-cons IsShape (shape_with size n) (map (shape_with size) counts) here (row size counts is are.1)
+    let here : IsSettingsShape (shape_with size n) = record { blocks_least = are.0.0; blocks_most = are.0.1; words_least = is.0; words_most = is.1 } in
+    All-cons IsSettingsShape (shape_with size n) (map (shape_with size) counts) here (row size counts is are.1)
 
-rows : (sizes counts : List ℕ) → AllByRecursion (IsSize 1024) sizes → AllByRecursion (IsSize 256) counts → All IsShape (flat_map (λ size. map (shape_with size) counts) sizes)
-rows [] counts are each = All-nil IsShape
+rows : (sizes counts : List ℕ) → AllByRecursion (IsSize 1024) sizes → AllByRecursion (IsSize 256) counts → All IsSettingsShape (flat_map (λ size. map (shape_with size) counts) sizes)
+rows [] counts are each = All-nil IsSettingsShape
 rows (size ∷ sizes) counts are each =
-    All-append IsShape (map (shape_with size) counts) (flat_map (λ size. map (shape_with size) counts) sizes) (row size counts are.0 each) (rows sizes counts are.1 each)
+    All-append IsSettingsShape (map (shape_with size) counts) (flat_map (λ size. map (shape_with size) counts) sizes) (row size counts are.0 each) (rows sizes counts are.1 each)
 
-pub in_range : All IsShape all_shapes
+pub in_range : All IsSettingsShape all_shapes
 in_range =
     let sizes : AllByRecursion (IsSize 1024) block_sizes = ((omega arith, omega arith), ((omega arith, omega arith), ((omega arith, omega arith), ((omega arith, omega arith), ((omega arith, omega arith), ((omega arith, omega arith), ((omega arith, omega arith), ((omega arith, omega arith), ((omega arith, omega arith), ((omega arith, omega arith), ((omega arith, omega arith), tt))))))))))) in
     let counts : AllByRecursion (IsSize 256) block_counts = ((omega arith, omega arith), ((omega arith, omega arith), ((omega arith, omega arith), ((omega arith, omega arith), ((omega arith, omega arith), ((omega arith, omega arith), ((omega arith, omega arith), ((omega arith, omega arith), ((omega arith, omega arith), tt))))))))) in
@@ -93,7 +93,7 @@ each_of : (o : Option Body) (Q R : Body → Type 0) → ((b : Body) → Q b → 
 each_of None Q R h is = tt
 each_of (Some b) Q R h is = h b is
 
-fit_widest : (cs : List ClassFile) (s : Settings) (shape : Shape) → IsShape shape → EachFits (with_shape s shape) cs → EachFits (with_shape s widest) cs
+fit_widest : (cs : List ClassFile) (s : Settings) (shape : Shape) → IsSettingsShape shape → EachFits (with_shape s shape) cs → EachFits (with_shape s widest) cs
 fit_widest cs s shape is fits =
     λ m.
     each_of (body_of (resolved cs) m) (λ (b : Body). code_blocks shape.block_words b ≤ shape.blocks) (λ (b : Body). code_blocks 1024 b ≤ 256)
@@ -136,7 +136,7 @@ keeps P t u b named (TooLarge m) cause subject e none h =
     absurd (none≢some found.TooLarge (sym other))
 keeps P t u b named NoMemory cause subject e none h = tt
 
-module _ (cs : List ClassFile) (s : Settings) (text name : List ℕ) (shape : Shape) (is : IsShape shape) where
+module _ (cs : List ClassFile) (s : Settings) (text name : List ℕ) (shape : Shape) (is : IsSettingsShape shape) where
   forbidden : (cause : BoundCause) (subject : Vec ℕ Global) → of_shape (refusals.Forbidden cause subject) ≡ None → IsForbidden cs (with_shape s shape) text name cause subject.items → IsForbidden cs (with_shape s widest) text name cause subject.items
   forbidden cause subject none h = record {
     codes_fit = fit_widest cs s shape is h.codes_fit;
@@ -161,7 +161,7 @@ module _ (cs : List ClassFile) (s : Settings) (text name : List ℕ) (shape : Sh
 
 module _ (cs : List ClassFile) (s : Settings) (text name : List ℕ) where
   -- with settings that have a shape
-  pub refused_by : (shape : Shape) (u : Settings) → IsShape shape → u ≡ with_shape s shape → (r : NotBounded) → of_shape r ≡ None → IsNotBounded cs u text name r → IsShapeRefusal cs s text name r
+  pub refused_by : (shape : Shape) (u : Settings) → IsSettingsShape shape → u ≡ with_shape s shape → (r : NotBounded) → of_shape r ≡ None → IsNotBounded cs u text name r → IsShapeRefusal cs s text name r
   refused_by shape u is e r none h = refused cs s text name shape is r none (subst (λ (v : Settings). IsNotBounded cs v text name r) e h)
 
   spent : (r : NotBounded) → r ≡ refusals.NoMemory → IsShapeRefusal cs s text name r

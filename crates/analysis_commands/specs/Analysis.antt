@@ -1,8 +1,7 @@
 -- What an analysis of a program stands on: the timing that the settings give, the names of the methods, and the bounds of their loops.
-use Rattle.std.specs.Prelude.{◌≡◌, ℕ, ◌++◌, List, [], Some, None, codes, decimal, slice_get}
+use Rattle.std.specs.Prelude.{◌≡◌, ℕ, ◌++◌, List, Some, None, codes, decimal, slice_get}
 use Rattle.class_pool.specs.declared.class.ClassFile.{ClassFile}
-use Rattle.program_tables.specs.Numbers.{method_text}
-use Rattle.program_tables.specs.Resolved.{at_method, resolved}
+use Rattle.program_tables.specs.Resolved.{resolved, method_name}
 use Rattle.linked_methods.specs.Fitting.{MethodFits, IsFirst}
 use Rattle.command_line.specs.declared.command.Settings.{Settings}
 use Rattle.loop_bounds.specs.Bounds.{LoopBound, bound_in}
@@ -25,20 +24,16 @@ timing_of s = record { read = s.read; write = s.write; blocks = s.blocks; block_
 abbrev pub EachFits : Settings → List ClassFile → Type 0
 EachFits s cs = (m : ℕ) → MethodFits (resolved cs) s.blocks s.block_words m
 
--- the name of a method: its class's name, a dot, its own name and its descriptor
-abbrev pub name_of : List ClassFile → (method : ℕ) → List ℕ
-name_of cs m = at_method cs m [] (method_text cs)
-
 -- what stands in a line for a method whose code the program lacks
 abbrev pub number_text : (method : ℕ) → List ℕ
 number_text m = codes "#" ++ decimal m
 
 abbrev pub named_or_number : List ClassFile → (method : ℕ) → List ℕ
-named_or_number cs m = elim (body_of (resolved cs) m) [ None ↦ number_text m | Some b ↦ name_of cs m ]
+named_or_number cs m = elim (body_of (resolved cs) m) [ None ↦ number_text m | Some b ↦ method_name cs m ]
 
 -- the bounds that lines give for the loops of methods with code, by the methods' names
 abbrev pub bounds_of : List ClassFile → List LoopBound → BoundOf
-bounds_of cs lines m p = onto (body_of (resolved cs) m) (λ b. bound_in (name_of cs m) p lines)
+bounds_of cs lines m p = onto (body_of (resolved cs) m) (λ b. bound_in (method_name cs m) p lines)
 
 -- ---- what is made of them
 
@@ -47,7 +42,7 @@ bounds_of cs lines m p = onto (body_of (resolved cs) m) (λ b. bound_in (name_of
 pub record IsAnalysisOf (cs : List ClassFile) (s : Settings) (bounds_text : List ℕ) (a : Analysis) : Type 0 where
   pub codes_fit : EachFits s cs
   pub flow : IsFlowOf (resolved cs) a.flow
-  pub names : (m : ℕ) (k : Coded) → slice_get a.flow.methods m ≡ Some k → k.name ≡ name_of cs m
+  pub names : (m : ℕ) (k : Coded) → slice_get a.flow.methods m ≡ Some k → k.name ≡ method_name cs m
   pub bounds : IsRead bounds_text a.bounds
   pub timing : a.timing ≡ timing_of s
 
@@ -61,7 +56,7 @@ IsBoundsFault text NoMemory = Unit {0}
 -- why there is no analysis: the first method whose code doesn't fit, with its name, or else what refuses the bounds
 abbrev pub IsAnalysisFault : List ClassFile → Settings → (bounds_text : List ℕ) → AnalysisFault → Type 0
 IsAnalysisFault cs s text (MethodTooLong m name blocks) = IsFirst (resolved cs) s.blocks s.block_words (record { method = m; blocks = blocks })
-    × (name.items ≡ name_of cs m)
+    × (name.items ≡ method_name cs m)
 IsAnalysisFault cs s text (BadBounds line) = EachFits s cs × IsBoundsFault text (BadBounds line)
 IsAnalysisFault cs s text (TwiceBound line) = EachFits s cs × IsBoundsFault text (TwiceBound line)
 IsAnalysisFault cs s text NoMemory = Unit {0}

@@ -22,11 +22,11 @@ abbrev pub table_name : Flow → (method : ℕ) → List ℕ
 table_name f m = elim (slice_get f.methods m) [ None ↦ number_text m | Some k ↦ k.name ]
 
 -- this method's code doesn't fit the method cache; or there was no memory for its name
-abbrev pub IsTooLong : Flow → TooLong → AnalysisFault → Type 0
-IsTooLong f long (MethodTooLong m name blocks) = (m ≡ long.method) × (blocks ≡ long.blocks) × (name.items ≡ table_name f m)
-IsTooLong f long (BadBounds line) = ⊥
-IsTooLong f long (TwiceBound line) = ⊥
-IsTooLong f long WithoutMemory = Unit {0}
+abbrev pub IsMethodTooLong : Flow → TooLong → AnalysisFault → Type 0
+IsMethodTooLong f long (MethodTooLong m name blocks) = (m ≡ long.method) × (blocks ≡ long.blocks) × (name.items ≡ table_name f m)
+IsMethodTooLong f long (BadBounds line) = ⊥
+IsMethodTooLong f long (TwiceBound line) = ⊥
+IsMethodTooLong f long WithoutMemory = Unit {0}
 
 -- ---- the conditions
 

@@ -5,7 +5,7 @@ use Rattle.program_tables.specs.Resolved.{resolved}
 use Rattle.bytecode_model.specs.Program.{Program}
 use Rattle.loop_bounds.specs.declared.BoundsFault.TheVariants.{Line, Twice}
 use Rattle.loop_bounds.specs.Bounds.{LoopBound}
-use Rattle.loop_bounds.specs.Grammar.{IsRead, IsRefused, IsReadLengths, IsRefusedLengths}
+use Rattle.loop_bounds.specs.Grammar.{IsRead, AreBoundsRefused, IsReadLengths, IsRefusedLengths}
 use Rattle.method_flow.specs.Keeping.{BoundOf}
 use Rattle.memory_rules.specs.declared.needs.Need.{Need}
 use Rattle.memory_rules.specs.declared.causes.NeedCause.{NeedCause}
@@ -42,8 +42,8 @@ AreGiven bounds_text = (bounds : List LoopBound) × IsRead bounds_text bounds
 
 -- why two texts give none: what refuses the bounds, or else the lengths
 abbrev pub IsBadText : (bounds_text sizes_text : List ℕ) → MemoryRefusal → Type 0
-IsBadText bounds_text sizes_text (BadBounds line) = IsRefused bounds_text (Line line)
-IsBadText bounds_text sizes_text (TwiceBound line) = IsRefused bounds_text (Twice line)
+IsBadText bounds_text sizes_text (BadBounds line) = AreBoundsRefused bounds_text (Line line)
+IsBadText bounds_text sizes_text (TwiceBound line) = AreBoundsRefused bounds_text (Twice line)
 IsBadText bounds_text sizes_text (BadSizes line) = AreGiven bounds_text × IsBadSizes sizes_text (BadSizes line)
 IsBadText bounds_text sizes_text (TwiceSize line) = AreGiven bounds_text × IsBadSizes sizes_text (TwiceSize line)
 IsBadText bounds_text sizes_text (NoNeed cause subject) = ⊥

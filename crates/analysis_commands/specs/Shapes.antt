@@ -19,7 +19,7 @@ use Rattle.analysis_commands.specs.Bounding.{IsBoundNumber, IsForbidden, IsNotBo
 -- ---- shapes
 
 -- a shape that settings can have
-pub record IsShape (shape : Shape) : Type 0 where
+pub record IsSettingsShape (shape : Shape) : Type 0 where
   pub blocks_least : 1 ≤ shape.blocks
   pub blocks_most : shape.blocks ≤ 256
   pub words_least : 1 ≤ shape.block_words

@@ -4,9 +4,9 @@ ghost use Rattle.base.specs.Sizes.{longest_file};
 ghost use Rattle.command_line.specs.Range.{AreSettings};
 ghost use Rattle.loop_bounds.specs.Grammar.{IsRead};
 ghost use Rattle.method_flow.specs.Flow.{Coded, IsFlowOf};
-ghost use Rattle.program_tables.specs.Resolved.{resolved};
-ghost use Rattle.analysis_commands.specs.Analysis.{timing_of, name_of, IsAnalysisOf, IsBoundsFault, IsAnalysisFault};
-ghost use Rattle.analysis_commands.specs.Answers.{IsTooLong};
+ghost use Rattle.program_tables.specs.Resolved.{resolved, method_name};
+ghost use Rattle.analysis_commands.specs.Analysis.{timing_of, IsAnalysisOf, IsBoundsFault, IsAnalysisFault};
+ghost use Rattle.analysis_commands.specs.Answers.{IsMethodTooLong};
 
 use crate::names::table_name;
 use base::NoMemory;
@@ -69,7 +69,7 @@ pub fn bounds_in(alloc: Global, text: &[u8]) -> Result<Bounds, AnalysisFault>
 /// The table of a program.
 pub fn table_of(alloc: Global, program: &Verified) -> Result<FlowProgram, NoMemory>
     ensures flow { IfOk result (IsFlowOf (resolved program.now)) }
-    ensures names { IfOk result (λ f. (m : ℕ) (k : Coded) → slice_get f.methods m ≡ Some k → k.name ≡ name_of program.now m) }
+    ensures names { IfOk result (λ f. (m : ℕ) (k : Coded) → slice_get f.methods m ≡ Some k → k.name ≡ method_name program.now m) }
 {
     program.is_typed();
     flow_of(alloc, program.program())
@@ -77,7 +77,7 @@ pub fn table_of(alloc: Global, program: &Verified) -> Result<FlowProgram, NoMemo
 
 /// Why a program with this table isn't analysed, where this method's code doesn't fit the method cache.
 fn too_long(alloc: Global, flow: &FlowProgram, long: TooLong) -> AnalysisFault
-    ensures { IsTooLong flow.now long result }
+    ensures { IsMethodTooLong flow.now long result }
 {
     match table_name(alloc, flow, long.method) {
         Ok(name) => AnalysisFault::MethodTooLong(long.method, name, long.blocks),

@@ -3,7 +3,8 @@ ghost use Rattle.std.specs.Prelude.{◌≡◌, ◌≤◌, ◌++◌, [], ◌∷�
 ghost use Rattle.base.specs.Sizes.{longest_file};
 ghost use Rattle.command_line.specs.Range.{AreSettings};
 ghost use Rattle.analysis_commands.specs.Bounding.{IsNotBounded};
-ghost use Rattle.analysis_commands.specs.Shapes.{IsShape, shape_with, all_shapes, with_shape, word_of, shape_text, shape_line, of_fault, of_cause, of_shape};
+ghost use Rattle.analysis_commands.specs.Shapes.{IsSettingsShape, shape_with, all_shapes, with_shape, word_of, shape_text, shape_line, of_fault, of_cause};
+ghost use Rattle.analysis_commands.specs.Shapes.{of_shape};
 ghost use Rattle.analysis_commands.specs.Shapes.{IsShapeBound, AreLinesOfShapes, AreShapeLines, IsShapeRefusal};
 
 use crate::analysis::AnalysisFault;
@@ -38,7 +39,7 @@ pub(crate) enum ShapeBound {
 /// The settings with this shape.
 fn with_shape(settings: &Settings, shape: Shape) -> Settings
     requires settings { AreSettings settings.now }
-    requires shape { IsShape shape }
+    requires shape { IsSettingsShape shape }
     ensures exact { result ≡ with_shape settings.now shape }
     ensures settings { AreSettings result }
 {
@@ -165,7 +166,7 @@ fn line_in(
     shape: Shape,
 ) -> Result<Vec<u8>, NotBounded>
     requires settings { AreSettings settings.now }
-    requires shape { IsShape shape }
+    requires shape { IsSettingsShape shape }
     requires short { length bounds.now ≤ longest_file }
     ensures line { IfOk result (λ line. AreLinesOfShapes program.now settings.now bounds.now name.now (shape ∷ []) line.items) }
     ensures refused { IfErr result (IsShapeRefusal program.now settings.now bounds.now name.now) }
@@ -198,7 +199,7 @@ fn lines_in(
     shapes: &[Shape],
 ) -> Result<Vec<u8>, NotBounded>
     requires settings { AreSettings settings.now }
-    requires shapes { All IsShape shapes.now }
+    requires shapes { All IsSettingsShape shapes.now }
     requires short { length bounds.now ≤ longest_file }
     ensures lines { IfOk result (λ text. AreLinesOfShapes program.now settings.now bounds.now name.now shapes.now text.items) }
     ensures refused { IfErr result (IsShapeRefusal program.now settings.now bounds.now name.now) }

@@ -14,7 +14,7 @@ use Rattle.bound_cert.specs.declared.lines.line.CertLine.{CertLine}
 use Rattle.bound_cert.specs.declared.lines.line.CertLine.TheVariants.{Version, Root, Start, Node, Loop, Bound}
 use Rattle.bound_cert.specs.Finding.{HasNoSpace, IsBehindPart, Finds}
 use Rattle.bound_cert.specs.Loop.{LoopSaid, AreLoopMembers}
-use Rattle.bound_cert.specs.CertLines.{kind_text, members_text, bound_text, line_text, IsVersion, IsBoundValue, IsInRange}
+use Rattle.bound_cert.specs.CertLines.{kind_text, members_text, bound_text, line_text, IsVersion, IsBoundValue, IsLineInRange}
 use Rattle.section_check.specs.Section.{IsPotential}
 use Rattle.bound_cert.specs.Rests.{node_rest, IsNodeRest, loop_rest, IsLoopRest, IsFrame}
 use Rattle.bound_cert.proofs.PartLemmas.{each_append, each_weaker, one_first_part, no_space_there, no_space_by_test}
@@ -33,12 +33,12 @@ rest_is line r e f = by_word (word_of line) r e (word_no_space line) f
 
 -- ---- sections
 
-absent_start : (r : List ℕ) → ((k : SectionKind) (m : ℕ) → m < 2 ^ 32 → r ≢ kind_text k ++ 32 ∷ decimal m) → (e : CertLine) → IsInRange e → codes "section " ++ r ≢ line_text e
+absent_start : (r : List ℕ) → ((k : SectionKind) (m : ℕ) → m < 2 ^ 32 → r ≢ kind_text k ++ 32 ∷ decimal m) → (e : CertLine) → IsLineInRange e → codes "section " ++ r ≢ line_text e
 absent_start r none e range f =
     let p = rest_is (Start Inside 0) r e f in
-    only_start (λ e. IsInRange e → r ≡ rest_of e → ⊥) (λ k m small same. none k m small same) e p.0 range p.1
+    only_start (λ e. IsLineInRange e → r ≡ rest_of e → ⊥) (λ k m small same. none k m small same) e p.0 range p.1
 
-pub no_kind : (r word number : List ℕ) → r ≡ word ++ 32 ∷ number → HasNoSpace word → ((k : SectionKind) → Unit {0} → word ≢ kind_text k) → (e : CertLine) → IsInRange e → codes "section " ++ r ≢ line_text e
+pub no_kind : (r word number : List ℕ) → r ≡ word ++ 32 ∷ number → HasNoSpace word → ((k : SectionKind) → Unit {0} → word ≢ kind_text k) → (e : CertLine) → IsLineInRange e → codes "section " ++ r ≢ line_text e
 no_kind r word number is h none =
     absent_start r (λ k m small same. none k tt (one_first_part word (kind_text k) (32 ∷ number) (32 ∷ decimal m) h (kind_no_space k) refl refl (sym is ∙ same)).0)
 
@@ -54,10 +54,10 @@ no_potential text number sum is h none x range same =
     let q : 32 ∷ sum ≡ 32 ∷ signed_decimal x.1 = p.1 in
     none x.1 range.1 (cc)
 
-pub absent_node : (raise : Bool) (r : List ℕ) → ((x : ℕ × ℤ) → IsNodeRest x → r ≢ node_rest x) → (e : CertLine) → IsInRange e → (if raise then codes "raise " else codes "node ") ++ r ≢ line_text e
+pub absent_node : (raise : Bool) (r : List ℕ) → ((x : ℕ × ℤ) → IsNodeRest x → r ≢ node_rest x) → (e : CertLine) → IsLineInRange e → (if raise then codes "raise " else codes "node ") ++ r ≢ line_text e
 absent_node raise r none e range f =
     let p = by_word (node_word raise) r e (node_word_is raise) (sym (node_line_is raise r) ∙ f) in
-    only_node raise (λ e. IsInRange e → r ≡ rest_of e → ⊥) (λ u z odd small same. none (u / 2, z) (omega (arith, small.0), small.1) same) e p.0 range p.1
+    only_node raise (λ e. IsLineInRange e → r ≡ rest_of e → ⊥) (λ u z odd small same. none (u / 2, z) (omega (arith, small.0), small.1) same) e p.0 range p.1
 
 no_front : (text : List ℕ) → HasNoSpace text → (number rest : List ℕ) → text ≢ number ++ 32 ∷ rest
 no_front text h number rest e = no_space_there number rest (subst HasNoSpace e h)
@@ -85,10 +85,10 @@ no_iteration text header rest cost members is h split k behind none x range e =
     let p = loop_parts_are text header rest is h x range e in
     none x.1 range.1 (one_first_part cost (decimal x.1) members x.2 k (decimal_no_space x.1 range.1) behind range.2 (sym split ∙ p.1)).0
 
-pub absent_loop : (region : Bool) (r : List ℕ) → ((x : ℕ × ℕ × List ℕ) → IsLoopRest x → r ≢ loop_rest x) → (e : CertLine) → IsInRange e → (if region then codes "region " else codes "loop ") ++ r ≢ line_text e
+pub absent_loop : (region : Bool) (r : List ℕ) → ((x : ℕ × ℕ × List ℕ) → IsLoopRest x → r ≢ loop_rest x) → (e : CertLine) → IsLineInRange e → (if region then codes "region " else codes "loop ") ++ r ≢ line_text e
 absent_loop region r none e range f =
     let p = by_word (loop_word region) r e (loop_word_is region) (sym (loop_line_is region r) ∙ f) in
-    only_loop region (λ e. IsInRange e → r ≡ rest_of e → ⊥)
+    only_loop region (λ e. IsLineInRange e → r ≡ rest_of e → ⊥)
     (λ l is small same. let header = small.header in none (l.header / 2, l.cost, members_text l.members) (omega arith, small.cost, behind_all l.members) same) e p.0 range p.1
 
 -- the text of a loop's parts is that of one place, cost and list of members
@@ -103,16 +103,16 @@ one_loop_rest x y h k e =
     (decimal_injective x.0 y.0 hx ky p.0, decimal_injective x.1 y.1 h.1 k.1 q.0, q.1)
 
 pub no_members : (region : Bool) (r text : List ℕ) (place cost : ℕ) → r ≡ loop_rest (place, cost, text) → IsLoopRest (place, cost, text) → ((ms : List ℕ) → AreLoopMembers ms → text ≢ members_text ms)
-    → (e : CertLine) → IsInRange e → (if region then codes "region " else codes "loop ") ++ r ≢ line_text e
+    → (e : CertLine) → IsLineInRange e → (if region then codes "region " else codes "loop ") ++ r ≢ line_text e
 no_members region r text place cost is h none e range f =
     let p = by_word (loop_word region) r e (loop_word_is region) (sym (loop_line_is region r) ∙ f) in
-    only_loop region (λ e. IsInRange e → r ≡ rest_of e → ⊥)
+    only_loop region (λ e. IsLineInRange e → r ≡ rest_of e → ⊥)
     (λ l region_is small same.
     let header = small.header in
     none l.members small.members (one_loop_rest (place, cost, text) (l.header / 2, l.cost, members_text l.members) h (omega arith, small.cost, behind_all l.members) (sym is ∙ same)).2) e p.0 range p.1
 
 pub loop_found : (region : Bool) (r text : List ℕ) (place cost : ℕ) (members : List ℕ) → r ≡ loop_rest (place, cost, text) → IsLoopRest (place, cost, text) → text ≡ members_text members → AreLoopMembers members
-    → Finds line_text IsInRange ((if region then codes "region " else codes "loop ") ++ r) (Some (Loop (record { region = region; header = 2 * place; cost = cost; members = members })))
+    → Finds line_text IsLineInRange ((if region then codes "region " else codes "loop ") ++ r) (Some (Loop (record { region = region; header = 2 * place; cost = cost; members = members })))
 loop_found region r text place cost members is h f m =
     let small = h.0 in
     let half : 2 * place / 2 ≡ place = omega arith in (
@@ -123,7 +123,7 @@ loop_found region r text place cost members is h f m =
 
 -- ---- a line without a space, and one that begins with another word
 
-pub no_space_no_line : (line : List ℕ) → HasNoSpace line → (e : CertLine) → IsInRange e → line ≢ line_text e
+pub no_space_no_line : (line : List ℕ) → HasNoSpace line → (e : CertLine) → IsLineInRange e → line ≢ line_text e
 no_space_no_line line h e range f = no_space_there (word_of e) (rest_of e) (subst HasNoSpace (f ∙ line_parts e) h)
 
 -- ---- a line says one thing
@@ -168,30 +168,30 @@ version_small n (inr e) = omega arith
 whole : (u v : ℕ) (s t : Bool) → s ≡ (u % 2 == 1) → t ≡ (v % 2 == 1) → s ≡ t → u / 2 ≡ v / 2 → u ≡ v
 whole u v s t a b e halves = let parities : u % 2 ≡ v % 2 = odd_same u v (sym a ∙ (e ∙ b)) in omega arith
 
-says_version : (n : ℕ) (b : CertLine) → IsInRange (Version n) → IsInRange b → line_text (Version n) ≡ line_text b → Version n ≡ b
+says_version : (n : ℕ) (b : CertLine) → IsLineInRange (Version n) → IsLineInRange b → line_text (Version n) ≡ line_text b → Version n ≡ b
 says_version n b h k e =
     let p = rest_is (Version n) (decimal n) b e in
-    only_version (λ b. IsInRange b → decimal n ≡ rest_of b → Version n ≡ b) (λ m range same. ap Version (decimal_injective n m (version_small n h) (version_small m range) same)) b p.0 k p.1
+    only_version (λ b. IsLineInRange b → decimal n ≡ rest_of b → Version n ≡ b) (λ m range same. ap Version (decimal_injective n m (version_small n h) (version_small m range) same)) b p.0 k p.1
 
-says_root : (n : ℕ) (b : CertLine) → IsInRange (Root n) → IsInRange b → line_text (Root n) ≡ line_text b → Root n ≡ b
+says_root : (n : ℕ) (b : CertLine) → IsLineInRange (Root n) → IsLineInRange b → line_text (Root n) ≡ line_text b → Root n ≡ b
 says_root n b h k e =
     let p = rest_is (Root n) (decimal n) b e in
-    only_root (λ b. IsInRange b → decimal n ≡ rest_of b → Root n ≡ b) (λ m range same. ap Root (decimal_injective n m (omega arith) (omega arith) same)) b p.0 k p.1
+    only_root (λ b. IsLineInRange b → decimal n ≡ rest_of b → Root n ≡ b) (λ m range same. ap Root (decimal_injective n m (omega arith) (omega arith) same)) b p.0 k p.1
 
-says_start : (kind : SectionKind) (n : ℕ) (b : CertLine) → IsInRange (Start kind n) → IsInRange b → line_text (Start kind n) ≡ line_text b → Start kind n ≡ b
+says_start : (kind : SectionKind) (n : ℕ) (b : CertLine) → IsLineInRange (Start kind n) → IsLineInRange b → line_text (Start kind n) ≡ line_text b → Start kind n ≡ b
 says_start kind n b h k e =
     let p = rest_is (Start kind n) (rest_of (Start kind n)) b e in
-    only_start (λ b. IsInRange b → rest_of (Start kind n) ≡ rest_of b → Start kind n ≡ b)
+    only_start (λ b. IsLineInRange b → rest_of (Start kind n) ≡ rest_of b → Start kind n ≡ b)
     (λ l m range same.
     let q = one_first_part (kind_text kind) (kind_text l) (32 ∷ decimal n) (32 ∷ decimal m) (kind_no_space kind) (kind_no_space l) refl refl same in
     let later : 32 ∷ decimal n ≡ 32 ∷ decimal m = q.1 in
     let digits : decimal n ≡ decimal m = cc in
     ap₂ (λ (x : SectionKind) (y : ℕ). Start x y) (one_kind kind l q.0) (decimal_injective n m (omega arith) (omega arith) digits)) b p.0 k p.1
 
-says_node : (u : ℕ) (z : ℤ) (b : CertLine) → IsInRange (Node u z) → IsInRange b → line_text (Node u z) ≡ line_text b → Node u z ≡ b
+says_node : (u : ℕ) (z : ℤ) (b : CertLine) → IsLineInRange (Node u z) → IsLineInRange b → line_text (Node u z) ≡ line_text b → Node u z ≡ b
 says_node u z b h k e =
     let p = rest_is (Node u z) (rest_of (Node u z)) b (sym (line_parts (Node u z)) ∙ e) in
-    only_node (u % 2 == 1) (λ b. IsInRange b → rest_of (Node u z) ≡ rest_of b → Node u z ≡ b)
+    only_node (u % 2 == 1) (λ b. IsLineInRange b → rest_of (Node u z) ≡ rest_of b → Node u z ≡ b)
     (λ v y odd range same.
     let hu : u / 2 < 2 ^ 64 = omega (arith, h.0) in
     let kv : v / 2 < 2 ^ 64 = omega (arith, range.0) in
@@ -203,10 +203,10 @@ says_node u z b h k e =
 same_loop : (l m : LoopSaid) → l.region ≡ m.region → l.header ≡ m.header → l.cost ≡ m.cost → l.members ≡ m.members → l ≡ m
 same_loop l m a b c d = λ i. record { region = a i; header = b i; cost = c i; members = d i }
 
-says_loop : (l : LoopSaid) (b : CertLine) → IsInRange (Loop l) → IsInRange b → line_text (Loop l) ≡ line_text b → Loop l ≡ b
+says_loop : (l : LoopSaid) (b : CertLine) → IsLineInRange (Loop l) → IsLineInRange b → line_text (Loop l) ≡ line_text b → Loop l ≡ b
 says_loop l b h k e =
     let p = rest_is (Loop l) (rest_of (Loop l)) b (sym (line_parts (Loop l)) ∙ e) in
-    only_loop l.region (λ b. IsInRange b → rest_of (Loop l) ≡ rest_of b → Loop l ≡ b)
+    only_loop l.region (λ b. IsLineInRange b → rest_of (Loop l) ≡ rest_of b → Loop l ≡ b)
     (λ m region range same.
     let header = h.header in
     let header_too = range.header in
@@ -216,12 +216,12 @@ says_loop l b h k e =
     let halves = q.0 in
     ap Loop (same_loop l m region (omega arith) q.1 (same_members l.members m.members h.members.small range.members.small q.2))) b p.0 k p.1
 
-says_bound : (n : Option ℕ) (b : CertLine) → IsInRange (Bound n) → IsInRange b → line_text (Bound n) ≡ line_text b → Bound n ≡ b
+says_bound : (n : Option ℕ) (b : CertLine) → IsLineInRange (Bound n) → IsLineInRange b → line_text (Bound n) ≡ line_text b → Bound n ≡ b
 says_bound n b h k e =
     let p = rest_is (Bound n) (bound_text n) b e in
-    only_bound (λ b. IsInRange b → bound_text n ≡ rest_of b → Bound n ≡ b) (λ m range same. ap Bound (one_bound n m h range same)) b p.0 k p.1
+    only_bound (λ b. IsLineInRange b → bound_text n ≡ rest_of b → Bound n ≡ b) (λ m range same. ap Bound (one_bound n m h range same)) b p.0 k p.1
 
-pub says_one_thing : (a b : CertLine) → IsInRange a → IsInRange b → line_text a ≡ line_text b → a ≡ b
+pub says_one_thing : (a b : CertLine) → IsLineInRange a → IsLineInRange b → line_text a ≡ line_text b → a ≡ b
 says_one_thing (Version n) b h k e = says_version n b h k e
 says_one_thing (Root n) b h k e = says_root n b h k e
 says_one_thing (Start kind n) b h k e = says_start kind n b h k e
@@ -255,7 +255,7 @@ pub record IsOther (line : List ℕ) : Type 0 where
   pub root : pointwise nat_eq (take 5 line) (codes "root ") ≡ false
   pub bound : pointwise nat_eq (take 6 line) (codes "bound ") ≡ false
 
-pub no_frame : (line : List ℕ) → IsOther line → (e : CertLine) → IsInRange e × IsFrame e → line ≢ line_text e
+pub no_frame : (line : List ℕ) → IsOther line → (e : CertLine) → IsLineInRange e × IsFrame e → line ≢ line_text e
 no_frame line o (Version n) h e = other_start line (codes "JOPC ") (decimal n) o.version e
 no_frame line o (Root n) h e = other_start line (codes "root ") (decimal n) o.root e
 no_frame line o (Start k n) h e = other_start line (codes "section ") (kind_text k ++ 32 ∷ decimal n) o.start e
@@ -270,11 +270,11 @@ pub record IsNeither (line : List ℕ) : Type 0 where
   pub iteration : pointwise nat_eq (take 5 line) (codes "loop ") ≡ false
   pub region : pointwise nat_eq (take 7 line) (codes "region ") ≡ false
 
-pub frame_found : (line : List ℕ) (r : Option CertLine) → IsNeither line → Finds line_text (λ e. IsInRange e × IsFrame e) line r → Finds line_text IsInRange line r
+pub frame_found : (line : List ℕ) (r : Option CertLine) → IsNeither line → Finds line_text (λ e. IsLineInRange e × IsFrame e) line r → Finds line_text IsLineInRange line r
 frame_found line (Some e) o h = (h.0, h.1.0)
 frame_found line None o h = absent line o h
   where
-    absent : (line : List ℕ) → IsNeither line → ((e : CertLine) → IsInRange e × IsFrame e → line ≢ line_text e) → (e : CertLine) → IsInRange e → line ≢ line_text e
+    absent : (line : List ℕ) → IsNeither line → ((e : CertLine) → IsLineInRange e × IsFrame e → line ≢ line_text e) → (e : CertLine) → IsLineInRange e → line ≢ line_text e
     absent line o none (Version n) k f = none (Version n) (k, tt) f
     absent line o none (Root n) k f = none (Root n) (k, tt) f
     absent line o none (Start kind n) k f = none (Start kind n) (k, tt) f
@@ -338,7 +338,7 @@ loop_word_no_feed : (t : Bool) → HasNoFeed (if t then codes "region " else cod
 loop_word_no_feed true = no_feed_by_test (codes "region ") refl
 loop_word_no_feed false = no_feed_by_test (codes "loop ") refl
 
-pub line_no_feed : (e : CertLine) → IsInRange e → HasNoFeed (line_text e)
+pub line_no_feed : (e : CertLine) → IsLineInRange e → HasNoFeed (line_text e)
 line_no_feed (Version n) h = no_feed_append (codes "JOPC ") (decimal n) (no_feed_by_test (codes "JOPC ") refl) (decimal_no_feed n (version_small n h))
 line_no_feed (Root n) h = no_feed_append (codes "root ") (decimal n) (no_feed_by_test (codes "root ") refl) (decimal_no_feed n (omega (arith, h)))
 line_no_feed (Start k n) h =

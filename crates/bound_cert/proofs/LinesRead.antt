@@ -5,7 +5,7 @@ use Rattle.std.proofs.lemmas.List.{length-append, take-append-drop, take-append-
 use Rattle.lists.specs.Lists.{onto}
 use Rattle.lists.proofs.Lemmas.{some_same}
 use Rattle.bound_cert.specs.declared.lines.line.CertLine.{CertLine}
-use Rattle.bound_cert.specs.CertLines.{line_text, IsInRange}
+use Rattle.bound_cert.specs.CertLines.{line_text, IsLineInRange}
 use Rattle.bound_cert.proofs.LineLemmas.{says_one_thing}
 use Rattle.bound_cert.specs.Certificate.{Certificate, IsInGrammar}
 use Rattle.bound_cert.specs.Texts.{said, lines_of, AreLinesOf, BeginOne, IsFirstRefusedLine}
@@ -19,7 +19,7 @@ map-append [] ys = refl
 map-append (x ∷ xs) ys = ap (λ (zs : List (List ℕ)). line_text x ∷ zs) (map-append xs ys)
 
 -- lines that begin those of a certificate say what it begins with
-begin_said : (es fs : List CertLine) (rest : List (List ℕ)) → AllByRecursion IsInRange es → AllByRecursion IsInRange fs → map line_text es ++ rest ≡ map line_text fs → (gs : List CertLine) × (fs ≡ es ++ gs) × (rest ≡ map line_text gs)
+begin_said : (es fs : List CertLine) (rest : List (List ℕ)) → AllByRecursion IsLineInRange es → AllByRecursion IsLineInRange fs → map line_text es ++ rest ≡ map line_text fs → (gs : List CertLine) × (fs ≡ es ++ gs) × (rest ≡ map line_text gs)
 begin_said [] fs rest h k e = (fs, refl, e)
 begin_said (x ∷ es) [] rest h k e = absurd (cc)
 begin_said (x ∷ es) (y ∷ fs) rest h k e =
@@ -30,7 +30,7 @@ begin_said (x ∷ es) (y ∷ fs) rest h k e =
     let tail : fs ≡ es ++ r.0 = r.1 in
     (r.0, cc, r.2)
 
-range_behind : (es gs : List CertLine) → AllByRecursion IsInRange (es ++ gs) → AllByRecursion IsInRange gs
+range_behind : (es gs : List CertLine) → AllByRecursion IsLineInRange (es ++ gs) → AllByRecursion IsLineInRange gs
 range_behind [] gs h = h
 range_behind (e ∷ es) gs h = range_behind es gs h.1
 
@@ -38,7 +38,7 @@ range_behind (e ∷ es) gs h = range_behind es gs h.1
 
 pub record IsReadTo (lines : List (List ℕ)) (number : ℕ) (left : List (List ℕ)) (draft : Draft) : Type 0 where
   pub entries : List CertLine
-  pub range : AllByRecursion IsInRange entries
+  pub range : AllByRecursion IsLineInRange entries
   pub whole : lines ≡ map line_text entries ++ left
   pub count : number ≡ length (map line_text entries)
   pub given : run Blank entries ≡ Some draft
@@ -47,7 +47,7 @@ pub record IsReadTo (lines : List (List ℕ)) (number : ℕ) (left : List (List 
 pub none_read : (lines left : List (List ℕ)) → left ≡ lines → IsReadTo lines 0 left Blank
 none_read lines left e = record { entries = []; range = tt; whole = sym e; count = refl; given = refl; draft_is = tt }
 
-range_push : (es : List CertLine) (e : CertLine) → AllByRecursion IsInRange es → IsInRange e → AllByRecursion IsInRange (es ++ e ∷ [])
+range_push : (es : List CertLine) (e : CertLine) → AllByRecursion IsLineInRange es → IsLineInRange e → AllByRecursion IsLineInRange (es ++ e ∷ [])
 range_push [] e h k = (k, tt)
 range_push (x ∷ es) e h k = (h.0, range_push es e h.1 k)
 
@@ -115,7 +115,7 @@ none_with lines number left rest line d r refuses b =
     next c grammar further (x ∷ xs) same text =
         let line_is : line ≡ line_text x = cc in
         let leads : run d (x ∷ xs) ≡ Some (Whole c) = sym (run_on Blank d r.entries (x ∷ xs) r.given) ∙ (ap (run Blank) (sym same) ∙ run_said c) in
-        let range = range_behind r.entries (x ∷ xs) (subst (AllByRecursion IsInRange) same (said_in_range c grammar)) in
+        let range = range_behind r.entries (x ∷ xs) (subst (AllByRecursion IsLineInRange) same (said_in_range c grammar)) in
         refuses x range.0 line_is (run_goes_on d x xs c leads grammar)
 
 take_one : (xs : List (List ℕ)) (y : List ℕ) (ys : List (List ℕ)) (n : ℕ) → n ≡ length xs → take (suc n) (xs ++ y ∷ ys) ≡ xs ++ y ∷ []

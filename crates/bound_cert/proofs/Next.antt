@@ -9,7 +9,7 @@ use Rattle.bound_cert.specs.declared.lines.line.SectionKind.TheVariants.{Loops}
 use Rattle.bound_cert.specs.declared.lines.line.CertLine.{CertLine}
 use Rattle.bound_cert.specs.declared.lines.line.CertLine.TheVariants.{Start, Node, Loop, Bound}
 use Rattle.bound_cert.specs.Loop.{LoopSaid, IsLoopSaid}
-use Rattle.bound_cert.specs.CertLines.{line_text, IsBoundValue, IsInRange}
+use Rattle.bound_cert.specs.CertLines.{line_text, IsBoundValue, IsLineInRange}
 use Rattle.section_check.specs.Section.{IsPotential}
 use Rattle.bound_cert.proofs.LineLemmas.{says_one_thing}
 use Rattle.bound_cert.specs.declared.cert.CertSection.{CertSection}
@@ -152,7 +152,7 @@ ends b n cert bound d range c e =
 
 -- ---- a line
 
-pub adds : (d : Draft) (line : List ℕ) (said : CertLine) (next : Reading) → line ≡ line_text said → IsInRange said → GivesNext d said next → IsDraft (draft_of next) → AddsNext d line next
+pub adds : (d : Draft) (line : List ℕ) (said : CertLine) (next : Reading) → line ≡ line_text said → IsLineInRange said → GivesNext d said next → IsDraft (draft_of next) → AddsNext d line next
 adds d line said next text range g goes = record { adds = record { said = said; text = text; range = range; put = g.put; goes_on = goes }; reading = g.reading }
 
 pub reading_draft : (next : Reading) → IsReading next → IsDraft (draft_of next)
@@ -161,10 +161,10 @@ reading_draft (readings.Versioned version) h = h
 reading_draft (readings.Begun b) h = h.1
 reading_draft (readings.Whole c) h = h
 
-pub refuses : (d : Draft) (line : List ℕ) (said : CertLine) → line ≡ line_text said → IsInRange said → ¬ GoesOn d said → Refuses d line
+pub refuses : (d : Draft) (line : List ℕ) (said : CertLine) → line ≡ line_text said → IsLineInRange said → ¬ GoesOn d said → Refuses d line
 refuses d line said text range h other in_range text_too g = h (subst (λ (x : CertLine). GoesOn d x) (sym (says_one_thing said other range in_range (sym text ∙ text_too))) g)
 
-pub said_step : {E : Type 0} (d : Draft) (line : List ℕ) (said : CertLine) → line ≡ line_text said → IsInRange said → (r : Result (Option Reading) E)
+pub said_step : {E : Type 0} (d : Draft) (line : List ℕ) (said : CertLine) → line ≡ line_text said → IsLineInRange said → (r : Result (Option Reading) E)
     → IfOk r (λ next. MatchOption next (¬ GoesOn d said) (GivesNext d said)) → IfOk r (λ next. MatchOption next (Refuses d line) (AddsNext d line))
 said_step d line said text range (Ok None) h = refuses d line said text range h
 said_step d line said text range (Ok (Some n)) h = adds d line said n text range h (reading_draft n h.reading)

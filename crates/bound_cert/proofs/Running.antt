@@ -10,7 +10,7 @@ use Rattle.section_check.specs.Section.{CertifiedLoop, ArePotentials, listed, Is
 use Rattle.bound_cert.specs.declared.lines.line.SectionKind.{SectionKind}
 use Rattle.bound_cert.specs.declared.lines.line.CertLine.{CertLine}
 use Rattle.bound_cert.specs.declared.lines.line.CertLine.TheVariants.{Version, Root, Node, Loop, Bound}
-use Rattle.bound_cert.specs.CertLines.{IsInRange}
+use Rattle.bound_cert.specs.CertLines.{IsLineInRange}
 use Rattle.bound_cert.specs.declared.cert.CertSection.{CertSection}
 use Rattle.bound_cert.specs.Certificate.{Certificate, IsLoopInText, IsSectionInText, IsInGrammar}
 use Rattle.bound_cert.specs.Texts.{loop_said, section_said, said}
@@ -127,24 +127,24 @@ goal_in_grammar (Whole c) h = h
 
 -- ---- what a certificate says is in range
 
-range_append : (xs ys : List CertLine) → AllByRecursion IsInRange xs → AllByRecursion IsInRange ys → AllByRecursion IsInRange (xs ++ ys)
+range_append : (xs ys : List CertLine) → AllByRecursion IsLineInRange xs → AllByRecursion IsLineInRange ys → AllByRecursion IsLineInRange (xs ++ ys)
 range_append [] ys h k = k
 range_append (x ∷ xs) ys h k = (h.0, range_append xs ys h.1 k)
 
-nodes_in_range : (ns : List (ℕ × ℤ)) → All (λ u. u < 2 ^ 32) (listed ns) → ArePotentials ns → AllByRecursion IsInRange (map (λ e. Node e.0 e.1) ns)
+nodes_in_range : (ns : List (ℕ × ℤ)) → All (λ u. u < 2 ^ 32) (listed ns) → ArePotentials ns → AllByRecursion IsLineInRange (map (λ e. Node e.0 e.1) ns)
 nodes_in_range [] h k = tt
 nodes_in_range (n ∷ ns) h k = (
   (All-head (λ u. u < 2 ^ 32) n.0 (listed ns) h, All-head (λ (p : ℕ × ℤ). IsPotential p.1) n ns k),
   nodes_in_range ns (All-tail (λ u. u < 2 ^ 32) n.0 (listed ns) h) (All-tail (λ (p : ℕ × ℤ). IsPotential p.1) n ns k),
 )
 
-loops_in_range : (ls : List CertifiedLoop) → All IsLoopInText ls → AllByRecursion IsInRange (map (λ l. Loop (loop_said l)) ls)
+loops_in_range : (ls : List CertifiedLoop) → All IsLoopInText ls → AllByRecursion IsLineInRange (map (λ l. Loop (loop_said l)) ls)
 loops_in_range [] h = tt
 loops_in_range (l ∷ ls) h =
     let first = All-head IsLoopInText l ls h in
     (record { instruction = first.instruction; header = first.header; cost = first.cost; members = first.members }, loops_in_range ls (All-tail IsLoopInText l ls h))
 
-sections_in_range : (v : ℕ) (ss : List CertSection) → All (IsSectionInText v) ss → AllByRecursion IsInRange (flat_map section_said ss)
+sections_in_range : (v : ℕ) (ss : List CertSection) → All (IsSectionInText v) ss → AllByRecursion IsLineInRange (flat_map section_said ss)
 sections_in_range v [] h = tt
 sections_in_range v (s ∷ ss) h =
     let first = All-head (IsSectionInText v) s ss h in
@@ -152,5 +152,5 @@ sections_in_range v (s ∷ ss) h =
     (first.method, range_append (map (λ (e : ℕ × ℤ). Node e.0 e.1) s.section.nodes) (map (λ l. Loop (loop_said l)) s.section.loops) (nodes_in_range s.section.nodes first.places first.potentials) (loops_in_range s.section.loops first.loops))
     (sections_in_range v ss (All-tail (IsSectionInText v) s ss h))
 
-pub said_in_range : (c : Certificate) → IsInGrammar c → AllByRecursion IsInRange (said c)
+pub said_in_range : (c : Certificate) → IsInGrammar c → AllByRecursion IsLineInRange (said c)
 said_in_range c h = (h.version, (h.root, range_append (flat_map section_said c.sections) (Bound c.bound ∷ []) (sections_in_range c.version c.sections h.sections) (h.bound, tt)))

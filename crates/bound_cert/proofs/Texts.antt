@@ -10,7 +10,7 @@ use Rattle.ascii_text.specs.Line.{lines_of as text_lines, without_empty_last}
 use Rattle.section_check.specs.Section.{CertifiedLoop}
 use Rattle.bound_cert.specs.declared.lines.line.CertLine.{CertLine}
 use Rattle.bound_cert.specs.declared.lines.line.CertLine.TheVariants.{Version, Root, Start, Node, Loop, Bound}
-use Rattle.bound_cert.specs.CertLines.{line_text, IsInRange}
+use Rattle.bound_cert.specs.CertLines.{line_text, IsLineInRange}
 use Rattle.bound_cert.proofs.LineLemmas.{line_no_feed}
 use Rattle.bound_cert.specs.declared.cert.CertSection.{CertSection}
 use Rattle.bound_cert.specs.Certificate.{Certificate, IsInGrammar}
@@ -73,7 +73,7 @@ no_feed_test (x ∷ xs) h = (by x h.0, no_feed_test xs h.1)
     by : (x : ℕ) → x ≢ 10 → (x == 10) ≡ false
     by x other = elim (cases_Bool (x == 10)) [ inl e ↦ absurd (other (eqb-true x 10 e)) | inr e ↦ e ]
 
-pieces : (es : List CertLine) → AllByRecursion IsInRange es → slice_split (λ byte. byte == 10) (flat_map fed es) ≡ map line_text es ++ [] ∷ []
+pieces : (es : List CertLine) → AllByRecursion IsLineInRange es → slice_split (λ byte. byte == 10) (flat_map fed es) ≡ map line_text es ++ [] ∷ []
 pieces [] h = refl
 pieces (e ∷ es) h =
     ap (slice_split (λ byte. byte == 10)) (append_assoc (line_text e) (10 ∷ []) (flat_map fed es))

@@ -53,10 +53,10 @@ line_text (Loop l) = (if l.region then codes "region " else codes "loop ")
 line_text (Bound bound) = codes "bound " ++ bound_text bound
 
 -- its numbers are in their ranges
-abbrev pub IsInRange : CertLine → Type 0
-IsInRange (Version version) = IsVersion version
-IsInRange (Root method) = method < 2 ^ 32
-IsInRange (Start kind method) = method < 2 ^ 32
-IsInRange (Node u potential) = (u < 2 ^ 32) × IsPotential potential
-IsInRange (Loop l) = IsLoopSaid l
-IsInRange (Bound bound) = IsBoundValue bound
+abbrev pub IsLineInRange : CertLine → Type 0
+IsLineInRange (Version version) = IsVersion version
+IsLineInRange (Root method) = method < 2 ^ 32
+IsLineInRange (Start kind method) = method < 2 ^ 32
+IsLineInRange (Node u potential) = (u < 2 ^ 32) × IsPotential potential
+IsLineInRange (Loop l) = IsLoopSaid l
+IsLineInRange (Bound bound) = IsBoundValue bound

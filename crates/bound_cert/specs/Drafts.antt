@@ -7,7 +7,7 @@ use Rattle.bound_cert.specs.declared.lines.line.SectionKind.TheVariants.{Loops}
 use Rattle.bound_cert.specs.declared.lines.line.CertLine.{CertLine}
 use Rattle.bound_cert.specs.declared.lines.line.CertLine.TheVariants.{Version, Root, Start, Node, Loop, Bound}
 use Rattle.bound_cert.specs.Loop.{LoopSaid, IsAbove, last_of}
-use Rattle.bound_cert.specs.CertLines.{line_text, IsVersion, IsInRange}
+use Rattle.bound_cert.specs.CertLines.{line_text, IsVersion, IsLineInRange}
 use Rattle.bound_cert.specs.declared.cert.CertSection.{CertSection}
 use Rattle.bound_cert.specs.Certificate.{Certificate, IsInGrammar}
 
@@ -65,13 +65,13 @@ GoesOn draft line = IsSomeAnd (put draft line) IsDraft
 pub record Adds (draft : Draft) (line : List ℕ) (next : Draft) : Type 0 where
   pub said : CertLine
   pub text : line ≡ line_text said
-  pub range : IsInRange said
+  pub range : IsLineInRange said
   pub put : put draft said ≡ Some next
   pub goes_on : IsDraft next
 
 -- no certificate goes on with the line
 abbrev pub Refuses : Draft → (line : List ℕ) → Type 0
-Refuses draft line = (said : CertLine) → IsInRange said → line ≡ line_text said → ¬ GoesOn draft said
+Refuses draft line = (said : CertLine) → IsLineInRange said → line ≡ line_text said → ¬ GoesOn draft said
 
 -- a section takes a node: nodes rise and stand before the loops
 pub record TakesNode (s : CertSection) (u : ℕ) : Type 0 where

@@ -4,7 +4,7 @@ use Rattle.std.proofs.lemmas.List.{map-append}
 use Rattle.std.proofs.lemmas.List.Elements.{Contains-append_right}
 use Rattle.lists.specs.Members.{at_head, cons_cases, has_or_not}
 use Rattle.loop_nest.specs.Digraph.{Digraph, Edge}
-use Rattle.loop_nest.specs.Walks.{Walk, Dominates, IsReachable, IsBackEdge, IsHeader, Takes}
+use Rattle.loop_nest.specs.Walks.{Walk, Dominates, IsReachable, IsBackEdge, IsHeader, TakesEdge}
 use Rattle.loop_nest.specs.Walks.Walk.{stay, along}
 use Rattle.loop_nest.specs.Reduction.{IsReducible}
 use Rattle.loop_nest.specs.Laws.{CyclesTakeBackEdges, LoopsAreNested, HeaderDominatesMembers, DominanceIsAntisymmetric}
@@ -28,7 +28,7 @@ whole_walk edges stay = stay
 whole_walk edges (along {u} {v} e t) = along (edges u v e) (whole_walk edges t)
 
 -- a walk has the edges that it takes
-pub taken_edge : {g : Digraph} {u v : ℕ} {ns : List ℕ} → Walk g u v ns → (a h : ℕ) → Takes ns a h → Edge g a h
+pub taken_edge : {g : Digraph} {u v : ℕ} {ns : List ℕ} → Walk g u v ns → (a h : ℕ) → TakesEdge ns a h → Edge g a h
 taken_edge {g} w a h (before, after, is) =
     let r = goes_on (walk_from w before a (h ∷ after) is) (h ∷ after) refl (λ e. let bad : ⊥ = cc in bad) in
     let b = begins r.2 in
@@ -36,7 +36,7 @@ taken_edge {g} w a h (before, after, is) =
     subst (λ (z : ℕ). Edge g a z) same r.1
 
 -- a walk whose nodes have other numbers takes the edges that have these numbers
-takes_mapped : (node : ℕ → ℕ) (ns ms : List ℕ) (a h : ℕ) → ns ≡ map node ms → Takes ms a h → Takes ns (node a) (node h)
+takes_mapped : (node : ℕ → ℕ) (ns ms : List ℕ) (a h : ℕ) → ns ≡ map node ms → TakesEdge ms a h → TakesEdge ns (node a) (node h)
 takes_mapped node ns ms a h is (before, after, parts) = (map node before, map node after, is ∙ (ap (map node) parts ∙ map-append node before (a ∷ h ∷ after)))
 
 -- ---- graphs of methods

@@ -1,7 +1,7 @@
 -- Graphs whose cycles take back edges, and what exists in them.
 use Rattle.std.specs.Prelude.{◌≡◌, ℕ, List, ◌∷◌, length, Contains}
 use Rattle.loop_nest.specs.Digraph.{Digraph, Edge, IsDigraph}
-use Rattle.loop_nest.specs.Walks.{Walk, IsReachable, IsBackEdge, IsMember, Takes}
+use Rattle.loop_nest.specs.Walks.{Walk, IsReachable, IsBackEdge, IsMember, TakesEdge}
 use Rattle.loop_nest.specs.Nest.{NaturalLoop, IsNest}
 use Rattle.section_check.specs.Bounded.{IsGreatest}
 use Rattle.path_solver.specs.Reaching.{ReachesExit}
@@ -13,7 +13,7 @@ LeadsFromReached g = (u v : ℕ) → Edge g u v → IsReachable g u
 
 -- each cycle takes a back edge, as each does of a reducible graph
 abbrev pub TakesBackEdges : Digraph → Type 0
-TakesBackEdges g = (u v : ℕ) (ns : List ℕ) → Edge g u v → Walk g v u ns → (a h : ℕ) × Takes (u ∷ ns) a h × IsBackEdge g a h
+TakesBackEdges g = (u v : ℕ) (ns : List ℕ) → Edge g u v → Walk g v u ns → (a h : ℕ) × TakesEdge (u ∷ ns) a h × IsBackEdge g a h
 
 -- all these nodes are members of the loop of one of them
 pub record LiesInLoop (g : Digraph) (ns : List ℕ) : Type 0 where

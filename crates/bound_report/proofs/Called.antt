@@ -23,7 +23,7 @@ use Rattle.bound_rules.specs.Numbers.{full_and_back}
 use Rattle.bound_rules.proofs.Greatest.{same_members, none_greatest}
 use Rattle.compact_walks.specs.Limited.{cycles_limit, limited}
 use Rattle.wcet.specs.declared.known.Known.{Known}
-use Rattle.wcet.specs.Known.{known_at, AreTold, IsFullBy, IsToldOf}
+use Rattle.wcet.specs.Known.{known_at, CalleesAreKnown, IsFullBy, IsToldOf}
 use Rattle.wcet.specs.Known.IsFullBy.{fits as full_fits, exceeds as full_exceeds}
 use Rattle.wcet.specs.Laws.{numbers_by}
 use Rattle.wcet.proofs.Limiting.{small_is}
@@ -117,7 +117,7 @@ module _ (P : Program) (t : Timing) (table : List Known) (m p : ℕ) (targets : 
 
 -- ---- a node of a method
 
-module _ (starts : (code : List ℕ) → AreStarts code) (kinds : RowsAreOfTheirKinds) (P : Program) (t : Timing) (f : Flow) (flow : IsFlowOf P f) (table : List Known) (m : ℕ) (k : Coded) (at : slice_get f.methods m ≡ Some k) (c : IsCoded k) (ends : AreTold P t table m)
+module _ (starts : (code : List ℕ) → AreStarts code) (kinds : RowsAreOfTheirKinds) (P : Program) (t : Timing) (f : Flow) (flow : IsFlowOf P f) (table : List Known) (m : ℕ) (k : Coded) (at : slice_get f.methods m ≡ Some k) (c : IsCoded k) (ends : CalleesAreKnown P t table m)
     (without : List Bool) (callees : List Callee) (are : AreCallees f k.calls table (load P t.read m) without callees) where
   of : IsCodedOf P m k
   of = flow.methods m k at

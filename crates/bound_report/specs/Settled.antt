@@ -7,10 +7,10 @@ use Rattle.method_flow.specs.declared.timing.Timing.{Timing}
 use Rattle.bound_rules.specs.Numbers.{AreNumbers}
 use Rattle.wcet.specs.declared.known.Known.{Known}
 use Rattle.wcet.specs.declared.methods.Methods.{Methods}
-use Rattle.wcet.specs.Known.{BoundSetting, bounds_in, ForEach, known_at, AreTold, IsKnownOf, AreNumbersOf}
+use Rattle.wcet.specs.Known.{BoundSetting, bounds_in, ForEach, known_at, CalleesAreKnown, IsKnownOf, AreNumbersOf}
 use Rattle.wcet.specs.Laws.{numbers_by}
 use Rattle.wcet.specs.Methods.{AreMethodsFound}
-use Rattle.wcet.specs.Ready.{AreReady, IsReady}
+use Rattle.wcet.specs.Ready.{AreReady, IsReadyOrder}
 use Rattle.bound_report.specs.declared.counts.MethodCounts.{MethodCounts}
 use Rattle.bound_report.specs.Counts.{AreCountsOf}
 
@@ -20,7 +20,7 @@ asked_in table m = (known_at table m).asked
 
 -- One method: what it may call is told, its numbers are known and none of them is too large, it can end, and it is one of an order for which all is ready.
 pub record IsSettledAt (P : Program) (t : Timing) (bound_of : BoundOf) (table : List Known) (m : ℕ) : Type 0 where
-  pub told : AreTold P t table m
+  pub told : CalleesAreKnown P t table m
   pub known : IsKnownOf P t bound_of table m (known_at table m)
   pub small : (known_at table m).too_large ≡ false
   pub numbers : AreNumbersOf P t bound_of (numbers_by table) m
@@ -32,7 +32,7 @@ pub record IsSettledAt (P : Program) (t : Timing) (bound_of : BoundOf) (table : 
 
 -- all methods of the order of a root
 pub record IsSettled (P : Program) (t : Timing) (bound_of : BoundOf) (root : ℕ) (order : List ℕ) (table : List Known) : Type 0 where
-  pub ready : IsReady P bound_of root order
+  pub ready : IsReadyOrder P bound_of root order
   pub known : (m : ℕ) → Contains order m → IsKnownOf P t bound_of table m (known_at table m)
   pub small : (m : ℕ) → Contains order m → (known_at table m).too_large ≡ false
   pub numbers : AreNumbers P t bound_of root (numbers_by table)
@@ -41,7 +41,7 @@ pub record IsSettled (P : Program) (t : Timing) (bound_of : BoundOf) (root : ℕ
 pub record AreReadyIn (set : BoundSetting) (root : ℕ) (order : List ℕ) (a : Methods) : Type 0 where
   pub distinct : AreDistinct order
   pub found : AreMethodsFound set order a
-  pub ready : ForEach set (λ P. IsReady P (bounds_in set) root order)
+  pub ready : ForEach set (λ P. IsReadyOrder P (bounds_in set) root order)
 
 -- these are counts of the method, whose number counts so often
 pub record IsCountOf (set : BoundSetting) (table : List Known) (m count : ℕ) (k : MethodCounts) : Type 0 where

@@ -9,7 +9,7 @@ ghost use Rattle.method_flow.specs.Flow.{IsFlowOf};
 ghost use Rattle.node_costs.specs.Costs.{bounds_of};
 ghost use Rattle.wcet.specs.declared.ending.MethodBound.TheVariants.{Printed};
 ghost use Rattle.wcet.specs.Ending.{IsMethodBound};
-ghost use Rattle.wcet.specs.Ready.{IsReady, IsSizeCause};
+ghost use Rattle.wcet.specs.Ready.{IsReadyOrder, IsSizeCause};
 ghost use Rattle.bound_report.specs.Report.{IsReportOf};
 
 mod callees;
@@ -53,7 +53,7 @@ pub fn report(
     requires root { root < length f.now.methods }
     requires known { All (λ m. m < length f.now.methods) order.now.methods }
     requires distinct { AreDistinct order.now.methods }
-    requires ready { (P : Program) → IsFlowOf P f.now → IsReady P (bounds_of f.now b.now) root order.now.methods }
+    requires ready { (P : Program) → IsFlowOf P f.now → IsReadyOrder P (bounds_of f.now b.now) root order.now.methods }
     ensures never { IfOk result (λ o. IfNone o ((P : Program) → IsFlowOf P f.now → IsMethodBound P t (bounds_of f.now b.now) root (Printed None))) }
     ensures printed { IfOk result (λ o. IfSome o (λ r. (P : Program) → IsFlowOf P f.now
         → IsMethodBound P t (bounds_of f.now b.now) root (Printed (Some r.totals.bound)))) }

@@ -23,7 +23,7 @@ use Rattle.boundary.specs.declared.answer.Boundary.TheVariants as answers
 use Rattle.boundary.specs.Answers.{answer_of, answer_at_end}
 use Rattle.boundary.specs.Setting.{Setting, limits, IsSetting, Stands}
 use Rattle.boundary.specs.Session.{IsAtStep, HasEnded, EndsWith}
-use Rattle.boundary.specs.Advances.{Advances, Reaches, AfterStep, FailsToRead, FailsToWrite, FailsToShow, Fails}
+use Rattle.boundary.specs.Advances.{Advances, ReachesBoundary, AfterStep, FailsToRead, FailsToWrite, FailsToShow, FailsOnDevice}
 use Rattle.boundary.specs.StageLaws.{NextStage, StagesAdvance, StagesAgree}
 use Rattle.boundary.proofs.Obeys.{Sort, Plain, Takes, Puts, Obeys, StepSort, step_sort}
 use Rattle.boundary.proofs.Landings.{comes_lands, arrived_lands, meets, Within, same_landing, broke_within}
@@ -68,17 +68,17 @@ given_first taken (x ∷ y ∷ ys) (inr one) few = absurd (omega (arith, ap (λ 
 
 -- ---- the machine
 
-module _ (advance : StagesAdvance) (agree : StagesAgree) (runs : AreRunLaws) (apart : RaiseApart) (old : machine.State) (here : IsAtStep old) (g : Setting) (s : State) (is : IsSetting g) (st : Stands g old s) where
+module _ (advance : StagesAdvance) (agree : StagesAgree) (runs : AreRunLaws) (apart : RaiseApart) (old : machine.MachineState) (here : IsAtStep old) (g : Setting) (s : State) (is : IsSetting g) (st : Stands g old s) where
   going : IsGoing s.mode
   going = goes_alike s.mode here.state.mode (agree old here g s is st) here.going
 
   -- ---- at a boundary
 
-  pub record Arrival (new : machine.State) (t0 t1 : Told) : Type 0 where
+  pub record Arrival (new : machine.MachineState) (t0 t1 : Told) : Type 0 where
     pub advances : Advances g s old new t0 t1
     pub stands : StandsFor g.program g.places g.chip g.memory new advances.next
 
-  pub arrival : (new : machine.State) (t0 t1 : Told) → Arrived old new t0 t1 → Arrival new t0 t1
+  pub arrival : (new : machine.MachineState) (t0 t1 : Told) → Arrived old new t0 t1 → Arrival new t0 t1
   arrival new t0 t1 a =
       let answer = first_of a.answers in
       let byte = first_given a.answers (are_given t0.left t1.left a.answers a.ran.device.left) in
@@ -87,29 +87,29 @@ module _ (advance : StagesAdvance) (agree : StagesAgree) (runs : AreRunLaws) (ap
       let same = same_landing runs old c.new new c.answers a.answers c.cycles a.cycles (comes_lands g.program g.places g.chip g.memory old s n.next c) (arrived_lands old new t0 t1 a) (meets c.answers a.answers (taken_of g old s answer going n)) in
       let A : List (Option ℕ) → Type 0 = λ xs. RanCycles a.cycles old new t0 t1 xs in
       let C : ℕ → Type 0 = λ k. RanCycles k old new t0 t1 c.answers in
-      let S : machine.State → Type 0 = λ m. StandsFor g.program g.places g.chip g.memory m n.next in
+      let S : machine.MachineState → Type 0 = λ m. StandsFor g.program g.places g.chip g.memory m n.next in
       record {
         advances = record { answer = answer; byte = byte; next = n.next; is_next = n.is_next; fits = n.fits; comes = c; answer_is = ap first_of (sym same.answers_are); new_is = same.new_is; ran = subst C (sym same.cycles_are) (subst A (sym same.answers_are) a.ran) };
         stands = subst S same.new_is c.stands;
       }
 
-  pub next_reached : (new : machine.State) (t0 t1 : Told) → Arrived old new t0 t1 → new.halt ≡ halts.Running → new.mpc ≢ RAISE → Reaches g s old new t0 t1 answers.Bytecode
+  pub next_reached : (new : machine.MachineState) (t0 t1 : Told) → Arrived old new t0 t1 → new.halt ≡ halts.Running → new.mpc ≢ RAISE → ReachesBoundary g s old new t0 t1 answers.Bytecode
   next_reached new t0 t1 a running other =
       let r = arrival new t0 t1 a in
       (r.advances, ap answer_of (running_here apart g new r.advances.next running other r.stands r.advances.next.mode refl))
 
-  pub raise_reached : (new : machine.State) (t0 t1 : Told) → Arrived old new t0 t1 → new.halt ≡ halts.Running → new.mpc ≡ RAISE → Reaches g s old new t0 t1 answers.Raise
+  pub raise_reached : (new : machine.MachineState) (t0 t1 : Told) → Arrived old new t0 t1 → new.halt ≡ halts.Running → new.mpc ≡ RAISE → ReachesBoundary g s old new t0 t1 answers.Raise
   raise_reached new t0 t1 a running at_raise =
       let r = arrival new t0 t1 a in
       (r.advances, raising_here apart g new r.advances.next is running at_raise r.stands r.advances.next.mode refl)
 
   -- each state for which the machine stands that has halted has ended so
-  pub end_reached : (new : machine.State) (t0 t1 : Told) (class : Option ℕ) → Arrived old new t0 t1 → EndsWith new class → (r : Advances g s old new t0 t1) × (answer_of r.next.mode ≡ answer_at_end class)
+  pub end_reached : (new : machine.MachineState) (t0 t1 : Told) (class : Option ℕ) → Arrived old new t0 t1 → EndsWith new class → (r : Advances g s old new t0 t1) × (answer_of r.next.mode ≡ answer_at_end class)
   end_reached new t0 t1 class a ends =
       let r = arrival new t0 t1 a in
       (r.advances, ends g r.advances.next is (record { stands = r.stands; fits = r.advances.fits }))
 
-  pub has_ended : (new : machine.State) (t0 t1 : Told) → Arrived old new t0 t1 → new.halt ≢ halts.Running → HasEnded new
+  pub has_ended : (new : machine.MachineState) (t0 t1 : Told) → Arrived old new t0 t1 → new.halt ≢ halts.Running → HasEnded new
   has_ended new t0 t1 a halted =
       let r = arrival new t0 t1 a in
       record { setting = g; is_setting = is; state = r.advances.next; stands = record { stands = r.stands; fits = r.advances.fits }; halted = halted }
@@ -117,12 +117,12 @@ module _ (advance : StagesAdvance) (agree : StagesAgree) (runs : AreRunLaws) (ap
   -- ---- where a call on the device failed
 
   -- the step for what was answered before, of which the way that broke off is a part
-  pub record Break (new : machine.State) (t0 t1 : Told) (fault : DeviceFault) (b : Broke old new t0 t1 fault) : Type 0 where
+  pub record Break (new : machine.MachineState) (t0 t1 : Told) (fault : DeviceFault) (b : Broke old new t0 t1 fault) : Type 0 where
     pub byte : IsInput (first_of b.answers)
     pub next : NextStage g old s (first_of b.answers)
     pub within : Within next.comes.answers b.answers (output_during next.comes.cycles (begun old next.comes.answers)) (output_during b.cycles (begun old b.answers)) next.comes.cycles b.cycles new
 
-  break_off : (new : machine.State) (t0 t1 : Told) (fault : DeviceFault) (b : Broke old new t0 t1 fault) → Break new t0 t1 fault b
+  break_off : (new : machine.MachineState) (t0 t1 : Told) (fault : DeviceFault) (b : Broke old new t0 t1 fault) → Break new t0 t1 fault b
   break_off new t0 t1 fault b =
       let answer = first_of b.answers in
       let byte = first_given b.answers (are_given t0.left b.before.left b.answers b.ran.device.left) in
@@ -149,14 +149,14 @@ module _ (advance : StagesAdvance) (agree : StagesAgree) (runs : AreRunLaws) (ap
       let n = advance g old s is st going answer byte in
       some_in (step g.program (limits g) answer s) n.next (K answer) n.is_next (each answer n.next n.is_next)
 
-  nothing_put : (new : machine.State) (t0 t1 : Told) (fault : DeviceFault) (b : Broke old new t0 t1 fault) → b.answers ≡ [] → output_during b.cycles (begun old b.answers) ≡ [] → output_during b.cycles (begun old []) ≡ []
+  nothing_put : (new : machine.MachineState) (t0 t1 : Told) (fault : DeviceFault) (b : Broke old new t0 t1 fault) → b.answers ≡ [] → output_during b.cycles (begun old b.answers) ≡ [] → output_during b.cycles (begun old []) ≡ []
   nothing_put new t0 t1 fault b none put = ap (λ (xs : List (Option ℕ)). output_during b.cycles (begun old xs)) (sym none) ∙ put
 
   -- the machine is where it was
-  still : (new : machine.State) → new ≡ old → Stands g new s
-  still new same = subst (λ (m : machine.State). Stands g m s) (sym same) st
+  still : (new : machine.MachineState) → new ≡ old → Stands g new s
+  still new same = subst (λ (m : machine.MachineState). Stands g m s) (sym same) st
 
-  write_failed : (new : machine.State) (t0 t1 : Told) → Broke old new t0 t1 faults.Output → FailsToWrite g s old new t0 t1
+  write_failed : (new : machine.MachineState) (t0 t1 : Told) → Broke old new t0 t1 faults.Output → FailsToWrite g s old new t0 t1
   write_failed new t0 t1 b = by_sort (step_sort g.program (limits g) s going) (break_off new t0 t1 faults.Output b)
     where
       silent : (r : Break new t0 t1 faults.Output b) → r.next.next.output ≡ s.output → FailsToWrite g s old new t0 t1
@@ -183,7 +183,7 @@ module _ (advance : StagesAdvance) (agree : StagesAgree) (runs : AreRunLaws) (ap
       by_sort : StepSort g.program (limits g) s → Break new t0 t1 faults.Output b → FailsToWrite g s old new t0 t1
       by_sort sort r = on sort.sort sort.obeys r
 
-  read_failed : (new : machine.State) (t0 t1 : Told) → Broke old new t0 t1 faults.Input → FailsToRead g s old new t0 t1
+  read_failed : (new : machine.MachineState) (t0 t1 : Told) → Broke old new t0 t1 faults.Input → FailsToRead g s old new t0 t1
   read_failed new t0 t1 b = by_sort (step_sort g.program (limits g) s going) (break_off new t0 t1 faults.Input b)
     where
       unasked : (r : Break new t0 t1 faults.Input b) → r.next.next.answers ≡ s.answers → FailsToRead g s old new t0 t1
@@ -208,7 +208,7 @@ module _ (advance : StagesAdvance) (agree : StagesAgree) (runs : AreRunLaws) (ap
       by_sort : StepSort g.program (limits g) s → Break new t0 t1 faults.Input b → FailsToRead g s old new t0 t1
       by_sort sort r = on sort.sort sort.obeys r
 
-  show_failed : (new : machine.State) (t0 t1 : Told) → Broke old new t0 t1 faults.Seen → FailsToShow g s old new t0 t1
+  show_failed : (new : machine.MachineState) (t0 t1 : Told) → Broke old new t0 t1 faults.Seen → FailsToShow g s old new t0 t1
   show_failed new t0 t1 b =
       let r = break_off new t0 t1 faults.Seen b in
       let n = r.next in
@@ -227,7 +227,7 @@ module _ (advance : StagesAdvance) (agree : StagesAgree) (runs : AreRunLaws) (ap
         };
       }
 
-  pub call_failed : (fault : DeviceFault) (new : machine.State) (t0 t1 : Told) → Broke old new t0 t1 fault → Fails g fault s old new t0 t1
+  pub call_failed : (fault : DeviceFault) (new : machine.MachineState) (t0 t1 : Told) → Broke old new t0 t1 fault → FailsOnDevice g fault s old new t0 t1
   call_failed faults.Input new t0 t1 b = read_failed new t0 t1 b
   call_failed faults.Output new t0 t1 b = write_failed new t0 t1 b
   call_failed faults.Seen new t0 t1 b = show_failed new t0 t1 b

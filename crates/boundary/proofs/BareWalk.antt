@@ -120,7 +120,7 @@ module _ (i : BareContent) (bytes : (k : ℕ) → slice_index i.code k < 2 ^ 8) 
         each = ((ap is_bare here.byte, some_row (λ x. RaisesNothing x.1 × ((u1 i.code pc ≡ 255) ⊎ IsSilent x.1)) pc _ (rows.Return None) row (tt, inr tt)), tt);
       }
 
-  walk : (is : List Instruction) (pc d most : ℕ) → drop pc i.code ≡ spelled is ++ return_code ∷ [] → image.StayWithin i.max_locals i.max_stack d is → length i.code ≤ pc + most → Walked pc d (starts_from most i.code (Some pc))
+  walk : (is : List Instruction) (pc d most : ℕ) → drop pc i.code ≡ spelled is ++ return_code ∷ [] → image.KeepLimits i.max_locals i.max_stack d is → length i.code ≤ pc + most → Walked pc d (starts_from most i.code (Some pc))
   walk is pc d zero at stay room = absurd (omega (arith, room, (inside_of is pc at)))
     where
       inside_of : (is : List Instruction) (pc : ℕ) → drop pc i.code ≡ spelled is ++ return_code ∷ [] → pc < length i.code

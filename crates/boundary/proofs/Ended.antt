@@ -48,16 +48,16 @@ linked_by g t c is class = ⊎_elim (λ linked. linked) (λ (image, grammar, sam
     none : (image : BareContent) → slice_get (bare.program_of image).types t ≡ Some (OfClass c) → ⊥
     none image h = cc
 
-halted_over : (m : machine.State) (number : ℕ) → m.halt ≡ halts.Uncaught → slice_index m.port.words (slice_index m.port.words (slice_index m.stack RAISED)) ≡ number → uncaught_of m ≡ Some number
+halted_over : (m : machine.MachineState) (number : ℕ) → m.halt ≡ halts.Uncaught → slice_index m.port.words (slice_index m.port.words (slice_index m.stack RAISED)) ≡ number → uncaught_of m ≡ Some number
 halted_over m number halted is =
     ap (λ (h : Halt). elim h [ halts.Uncaught ↦ Some (slice_index m.port.words (slice_index m.port.words (slice_index m.stack RAISED))) | _ ↦ None ]) halted ∙ ap Some is
 
-halted_at_end : (m : machine.State) → m.halt ≡ halts.Ended → uncaught_of m ≡ None
+halted_at_end : (m : machine.MachineState) → m.halt ≡ halts.Ended → uncaught_of m ≡ None
 halted_at_end m halted =
     ap (λ (h : Halt). elim h [ halts.Uncaught ↦ Some (slice_index m.port.words (slice_index m.port.words (slice_index m.stack RAISED))) | _ ↦ None ]) halted
 
 -- the number of the type of the object that wasn't caught
-number_is : EndLaws → (g : Setting) (m : machine.State) (s : State) (c : ℕ) → IsSetting g → Stands g m s → s.mode ≡ Uncaught c → uncaught_of m ≡ Some (8 + c)
+number_is : EndLaws → (g : Setting) (m : machine.MachineState) (s : State) (c : ℕ) → IsSetting g → Stands g m s → s.mode ≡ Uncaught c → uncaught_of m ≡ Some (8 + c)
 number_is laws g m s c is stage mode =
     let P = g.program in
     let pl = g.places in
@@ -80,11 +80,11 @@ number_is laws g m s c is stage mode =
     halted_over m (8 + c) at.halted (ap (λ (k : ℕ). slice_index m.port.words (slice_index m.port.words k)) at.raised ∙ ap (λ (k : ℕ). slice_index m.port.words k) type_is ∙ number ∙ says.class_numbers o.kind c class)
 
 -- a machine that has halted stands for no going state
-pub data End (g : Setting) (m : machine.State) (s : State) : Type 0 where
+pub data End (g : Setting) (m : machine.MachineState) (s : State) : Type 0 where
   Returned : s.mode ≡ Ended → uncaught_of m ≡ None → End g m s
   Thrown : (class : ℕ) → s.mode ≡ Uncaught class → uncaught_of m ≡ Some (8 + class) → End g m s
 
-pub end_of : EndLaws → (g : Setting) (m : machine.State) (s : State) → IsSetting g → Stands g m s → m.halt ≢ halts.Running → End g m s
+pub end_of : EndLaws → (g : Setting) (m : machine.MachineState) (s : State) → IsSetting g → Stands g m s → m.halt ≢ halts.Running → End g m s
 end_of laws g m s is stage halted = by_mode s.mode refl
   where
     by_mode : (mode : Ending) → s.mode ≡ mode → End g m s
@@ -94,7 +94,7 @@ end_of laws g m s is stage halted = by_mode s.mode refl
     by_mode (Uncaught c) e = Thrown c e (number_is laws g m s c is stage e)
 
 -- the machine says that the program returned
-pub ends_returned : EndLaws → (m : machine.State) → HasEnded m → None ≡ uncaught_of m → EndsWith m None
+pub ends_returned : EndLaws → (m : machine.MachineState) → HasEnded m → None ≡ uncaught_of m → EndsWith m None
 ends_returned laws m ended none g s is stage = by_end (end_of laws g m s is stage ended.halted)
   where
     by_end : End g m s → answer_of s.mode ≡ answer_at_end None
@@ -102,7 +102,7 @@ ends_returned laws m ended none g s is stage = by_end (end_of laws g m s is stag
     by_end (Thrown c mode number) = let clash : ◌≡◌ {A = Option ℕ} None (Some (8 + c)) = none ∙ number in absurd (cc)
 
 -- or gives the number of a type
-pub ends_uncaught : EndLaws → (m : machine.State) (number : ℕ) → HasEnded m → Some number ≡ uncaught_of m → EndsWith m (Some (number - 8))
+pub ends_uncaught : EndLaws → (m : machine.MachineState) (number : ℕ) → HasEnded m → Some number ≡ uncaught_of m → EndsWith m (Some (number - 8))
 ends_uncaught laws m number ended some g s is stage = by_end (end_of laws g m s is stage ended.halted)
   where
     same : (a b : ℕ) → ◌≡◌ {A = Option ℕ} (Some a) (Some b) → a ≡ b
@@ -112,7 +112,7 @@ ends_uncaught laws m number ended some g s is stage = by_end (end_of laws g m s 
     by_end (Returned mode none) = let clash : ◌≡◌ {A = Option ℕ} (Some number) None = some ∙ none in absurd (cc)
     by_end (Thrown c mode is_number) = let is : c ≡ number - 8 = omega (arith, same number (8 + c) (some ∙ is_number)) in ap answer_of mode ∙ ap (λ (k : ℕ). answers.Uncaught k) is
 
-pub number_large : EndLaws → (m : machine.State) (number : ℕ) → HasEnded m → Some number ≡ uncaught_of m → 8 ≤ number
+pub number_large : EndLaws → (m : machine.MachineState) (number : ℕ) → HasEnded m → Some number ≡ uncaught_of m → 8 ≤ number
 number_large laws m number ended some = by_end (end_of laws ended.setting m ended.state ended.is_setting ended.stands ended.halted)
   where
     same : (a b : ℕ) → ◌≡◌ {A = Option ℕ} (Some a) (Some b) → a ≡ b

@@ -98,7 +98,7 @@ pub record HasInstr (P : Program) (f : Frame) (b : Body) : Type 0 where
   pub is : instr_at P f.method f.pc ≡ Some instr
   pub decodes : decoded b.code f.pc ≡ Ok instr
 
-has_instr : (g : Setting) (m : machine.State) (s t : State) (answer : Option ℕ) (st : StandsFor g.program g.places g.chip g.memory m s) → s.mode ≡ Running → step g.program (limits g) answer s ≡ Some t → HasInstr g.program st.top st.body
+has_instr : (g : Setting) (m : machine.MachineState) (s t : State) (answer : Option ℕ) (st : StandsFor g.program g.places g.chip g.memory m s) → s.mode ≡ Running → step g.program (limits g) answer s ≡ Some t → HasInstr g.program st.top st.body
 has_instr g m s t answer st mode h =
     let P = g.program in
     let f = st.top in
@@ -114,7 +114,7 @@ has_instr g m s t answer st mode h =
     some_body : (b c : Body) → Some b ≡ Some c → b ≡ c
     some_body b c h = cc
 
-step_cost : (g : Setting) (m : machine.State) (s : State) (st : StandsFor g.program g.places g.chip g.memory m s) (i : Instr) (c : ℕ) → s.mode ≡ Running → instr_at g.program st.top.method st.top.pc ≡ Some i
+step_cost : (g : Setting) (m : machine.MachineState) (s : State) (st : StandsFor g.program g.places g.chip g.memory m s) (i : Instr) (c : ℕ) → s.mode ≡ Running → instr_at g.program st.top.method st.top.pc ≡ Some i
     → IsCost (u1 st.body.code st.top.pc) (params m i.count 0) c → IsStepCost g.program m s c
 step_cost g m s st i c mode instr cost =
     let P = g.program in
@@ -127,7 +127,7 @@ step_cost g m s st i c mode instr cost =
 quarter : (n : ℕ) → words_for n ≤ n
 quarter n = omega arith
 
-stall_small : PackedHasWords → (g : Setting) (old new : machine.State) (stall : ℕ) (o : Option ℕ) → IsSetting g → old.port.read ≤ 63 → LooksUp g.program g.places o old new stall → stall < 2 ^ 24
+stall_small : PackedHasWords → (g : Setting) (old new : machine.MachineState) (stall : ℕ) (o : Option ℕ) → IsSetting g → old.port.read ≤ 63 → LooksUp g.program g.places o old new stall → stall < 2 ^ 24
 stall_small packed g old new stall None is few h = omega (arith, h.0)
 stall_small packed g old new stall (Some k) is few h = by_body (body_of g.program k) (is.says.codes k) h
   where
@@ -148,7 +148,7 @@ stall_small packed g old new stall (Some k) is few h = by_body (body_of g.progra
 abbrev after_cycle : Scene → (asks : Bool) → List (Option ℕ) → Scene
 after_cycle c asks answers = record { state = cycle_of (given asks answers) c.state; answers = left_over asks answers; output = output_of c.state ++ c.output }
 
-abbrev state_after : ℕ → Scene → (asks : Bool) → List (Option ℕ) → machine.State
+abbrev state_after : ℕ → Scene → (asks : Bool) → List (Option ℕ) → machine.MachineState
 state_after k c asks answers = (run k (after_cycle c asks answers)).state
 
 end_behind : (k : ℕ) (c : Scene) → (run k (followed_by (None ∷ []) c)).state ≡ (run k c).state
@@ -169,12 +169,12 @@ end_behind (suc k) c = on (λ d. end_behind k d) (asks_input c.state) c.answers 
     on behind false xs asking are = to false xs (None ∷ []) asking are ∙ behind (after_cycle c false xs) ∙ back false xs asking are
 
 -- a run that is at a boundary with an answer more or the end behind is at one without it
-pub record ReachesOn (m : machine.State) (answers : List (Option ℕ)) (cycles : ℕ) : Type 0 where
+pub record ReachesOn (m : machine.MachineState) (answers : List (Option ℕ)) (cycles : ℕ) : Type 0 where
   pub more : List (Option ℕ)
   pub only_end : (more ≡ []) ⊎ (more ≡ None ∷ [])
   pub boundary : at_boundary (run cycles (begun m (answers ++ more))).state ≡ true
 
-boundary_with : (m : machine.State) (answers : List (Option ℕ)) (cycles : ℕ) → ReachesOn m answers cycles → at_boundary (run cycles (begun m answers)).state ≡ true
+boundary_with : (m : machine.MachineState) (answers : List (Option ℕ)) (cycles : ℕ) → ReachesOn m answers cycles → at_boundary (run cycles (begun m answers)).state ≡ true
 boundary_with m answers cycles r =
     ⊎_elim
     (λ none. ap (λ (xs : List (Option ℕ)). at_boundary (run cycles (begun m xs)).state) (sym (append-nil answers)) ∙ ap (λ (xs : List (Option ℕ)). at_boundary (run cycles (begun m (answers ++ xs))).state) (sym none) ∙ r.boundary)
@@ -182,7 +182,7 @@ boundary_with m answers cycles r =
     r.only_end
 
 -- the step takes none of the answers, or the first
-reaches_on : (m new : machine.State) (cycles : ℕ) (taken answers : List (Option ℕ)) → (taken ≡ []) ⊎ (taken ≡ first_of answers ∷ []) → ((more : List (Option ℕ)) → (run cycles (begun m (taken ++ more))).state ≡ new) → at_boundary new ≡ true
+reaches_on : (m new : machine.MachineState) (cycles : ℕ) (taken answers : List (Option ℕ)) → (taken ≡ []) ⊎ (taken ≡ first_of answers ∷ []) → ((more : List (Option ℕ)) → (run cycles (begun m (taken ++ more))).state ≡ new) → at_boundary new ≡ true
     → ReachesOn m answers cycles
 reaches_on m new cycles taken answers (inl none) ran boundary =
     record { more = []; only_end = inl refl; boundary = ap (λ (xs : List (Option ℕ)). at_boundary (run cycles (begun m xs)).state) (append-nil answers ∙ ap (λ (xs : List (Option ℕ)). xs ++ answers) (sym none)) ∙ ap at_boundary (ran answers) ∙ boundary }
@@ -202,12 +202,12 @@ pub record CostLaws : Type 0 where
   pub fixed : FixedWordsAreRead
   pub well : FittingStatesAreWellFormed
 
-pub record SmallStep (g : Setting) (m : machine.State) (s : State) : Type 0 where
+pub record SmallStep (g : Setting) (m : machine.MachineState) (s : State) : Type 0 where
   pub cycles : ℕ
   pub is : IsStepCost g.program m s cycles
   pub small : cycles < 2 ^ 61
 
-small_instruction : CostLaws → (g : Setting) (m : machine.State) (s t : State) (answer : Option ℕ) → IsSetting g → Stands g m s → HasWaits m → step g.program (limits g) answer s ≡ Some t → s.mode ≡ Running → SmallStep g m s
+small_instruction : CostLaws → (g : Setting) (m : machine.MachineState) (s t : State) (answer : Option ℕ) → IsSetting g → Stands g m s → HasWaits m → step g.program (limits g) answer s ≡ Some t → s.mode ≡ Running → SmallStep g m s
 small_instruction laws g m s t answer is stage waits has mode =
     let st = stage.stands in
     let code = code_of g m s is st in
@@ -220,7 +220,7 @@ handlers_long : (P : Program) (hs : List Handler) → length hs ≤ length (flat
 handlers_long P [] = omega arith
 handlers_long P (h ∷ hs) = omega (arith, handlers_long P hs, length-append (handler_words P h) (flat_map (handler_words P) hs))
 
-few_entries : CostLaws → (g : Setting) (m : machine.State) (s : State) → IsSetting g → (stage : Stands g m s) → g.program.linked ≡ true → length stage.stands.body.handlers < 2 ^ 32
+few_entries : CostLaws → (g : Setting) (m : machine.MachineState) (s : State) → IsSetting g → (stage : Stands g m s) → g.program.linked ≡ true → length stage.stands.body.handlers < 2 ^ 32
 few_entries laws g m s is stage linked =
     let P = g.program in
     let pl = g.places in
@@ -236,7 +236,7 @@ few_entries laws g m s is stage linked =
     let last = laws.fixed P pl g.chip g.memory m s (pl.method st.top.method) words (3 + length b.handlers) st well said.words (omega (arith, long, handlers_long P b.handlers)) in
     omega (arith, last.0, st.sizes.small)
 
-small_raise : CostLaws → (g : Setting) (m : machine.State) (s : State) (p : ℕ) → IsSetting g → Stands g m s → HasWaits m → s.mode ≡ Raising p → SmallStep g m s
+small_raise : CostLaws → (g : Setting) (m : machine.MachineState) (s : State) (p : ℕ) → IsSetting g → Stands g m s → HasWaits m → s.mode ≡ Raising p → SmallStep g m s
 small_raise laws g m s p is stage waits mode =
     let P = g.program in
     let st = stage.stands in
@@ -248,7 +248,7 @@ small_raise laws g m s p is stage waits mode =
       small = cost.small;
     }
 
-small_step : CostLaws → (g : Setting) (m : machine.State) (s t : State) (answer : Option ℕ) → IsSetting g → Stands g m s → HasWaits m → step g.program (limits g) answer s ≡ Some t → (mode : Ending) → s.mode ≡ mode → IsGoing mode → SmallStep g m s
+small_step : CostLaws → (g : Setting) (m : machine.MachineState) (s t : State) (answer : Option ℕ) → IsSetting g → Stands g m s → HasWaits m → step g.program (limits g) answer s ≡ Some t → (mode : Ending) → s.mode ≡ mode → IsGoing mode → SmallStep g m s
 small_step laws g m s t answer is stage waits has Running e going = small_instruction laws g m s t answer is stage waits has e
 small_step laws g m s t answer is stage waits has (Raising p) e going = small_raise laws g m s p is stage waits e
 small_step laws g m s t answer is stage waits has Ended e going = absurd going

@@ -12,7 +12,7 @@ use Rattle.microcode_rom.specs.declared.TheConstants.{WORDS, ENTRIES, RAISE}
 use Rattle.method_cache.specs.Contents.{is_cached}
 use Rattle.jop_core.specs.declared.halt.Halt.TheVariants.{Running, Ended, Uncaught}
 use Rattle.jop_core.specs.declared.places.TheConstants.{STACK}
-use Rattle.jop_core.specs.State.{State}
+use Rattle.jop_core.specs.State.{MachineState}
 use Rattle.jop_core.specs.Operations.{popped, pushed, stored, word_at, looked_up, can_switch, switched, branch_target, holds, operated}
 use Rattle.jop_core.specs.Cycle.{byte_at, entry_of, branched, with_opd, with_nxt, with_flags, performed, waits, ran, micro_at, counted, cycle_of, asks, asks_input, body_outputs, puts, output_of, at_boundary}
 use Rattle.jop_core.specs.Scene.{Scene, begun, run, next_scene, given}
@@ -120,22 +120,22 @@ entry_is_short op =
 -- ---- a cycle
 
 -- the state is at the address only where its opcode's row begins there
-pub record Keeps (to : ℕ) (s : State) : Type 0 where
+pub record Keeps (to : ℕ) (s : MachineState) : Type 0 where
   pub small : s.mpc < 2048
   pub entered : s.mpc ≡ to → entry_of s.opcode ≡ to
 
-either : (b : Bool) (x y : State) (at : ℕ) → x.mpc ≡ at → y.mpc ≡ at → (if b then x else y).mpc ≡ at
+either : (b : Bool) (x y : MachineState) (at : ℕ) → x.mpc ≡ at → y.mpc ≡ at → (if b then x else y).mpc ≡ at
 either true x y at first second = first
 either false x y at first second = second
 
-looked_mpc : (hit : Bool) (m : ℕ) (s : State) → (looked_up hit m s).mpc ≡ s.mpc
+looked_mpc : (hit : Bool) (m : ℕ) (s : MachineState) → (looked_up hit m s).mpc ≡ s.mpc
 looked_mpc true m s = refl
 looked_mpc false m s = refl
 
-switched_mpc : (s : State) → (switched s).mpc ≡ s.mpc
+switched_mpc : (s : MachineState) → (switched s).mpc ≡ s.mpc
 switched_mpc s = either (can_switch s s.a) (looked_up (is_cached s.a s.cache) s.a (popped s)) (popped s) s.mpc (looked_mpc (is_cached s.a s.cache) s.a (popped s)) refl
 
-operated_mpc : (input : Option ℕ) (op : Operation) (s : State) → (operated input op s).mpc ≡ s.mpc
+operated_mpc : (input : Option ℕ) (op : Operation) (s : MachineState) → (operated input op s).mpc ≡ s.mpc
 operated_mpc input Nop s = refl
 operated_mpc input Pop s = refl
 operated_mpc input Dup s = refl
@@ -185,7 +185,7 @@ operated_mpc input Stout s = refl
 operated_mpc input Hltb s = either (s.vp == STACK) (record s { halt = Ended }) s s.mpc refl refl
 operated_mpc input Hltu s = either (s.vp == STACK) (record s { halt = Uncaught }) s s.mpc refl refl
 
-opd_mpc : (opd : Bool) (s : State) → (with_opd opd s).mpc ≡ s.mpc
+opd_mpc : (opd : Bool) (s : MachineState) → (with_opd opd s).mpc ≡ s.mpc
 opd_mpc true s = refl
 opd_mpc false s = refl
 
@@ -193,7 +193,7 @@ small_next : (at : ℕ) → (at + 1) % 2048 < 2048
 small_next at = omega arith
 
 -- behind a word without a branch
-on : (to at : ℕ) (nxt opd : Bool) (x : State) → x.mpc ≡ at → on_by to at nxt ≡ true → Keeps to (with_nxt nxt (with_opd opd x))
+on : (to at : ℕ) (nxt opd : Bool) (x : MachineState) → x.mpc ≡ at → on_by to at nxt ≡ true → Keeps to (with_nxt nxt (with_opd opd x))
 on to at true opd x here avoiding = record { small = entry_is_short (byte_at (with_opd opd x)); entered = λ same. same }
 on to at false opd x here avoiding =
     let next : ((with_opd opd x).mpc + 1) % 2048 ≡ (at + 1) % 2048 = ap (λ k. (k + 1) % 2048) (opd_mpc opd x ∙ here) in
@@ -203,7 +203,7 @@ on to at false opd x here avoiding =
     }
 
 -- behind a branch
-off : (to at branch : ℕ) (taken : Bool) (x : State) → x.mpc ≡ at → off_by to at branch ≡ true → Keeps to (branched taken branch x)
+off : (to at branch : ℕ) (taken : Bool) (x : MachineState) → x.mpc ≡ at → off_by to at branch ≡ true → Keeps to (branched taken branch x)
 off to at branch true x here avoiding =
     let parts = both (not (branch == to)) (nat_lt branch 2048 && not ((at + 1) % 2048 == to)) avoiding in
     record {
@@ -219,7 +219,7 @@ off to at branch false x here avoiding =
     }
 
 -- what a microinstruction does, by its body
-abbrev pub performed_as : (input : Option ℕ) → Micro → Body → State → State
+abbrev pub performed_as : (input : Option ℕ) → Micro → Body → MachineState → MachineState
 performed_as input m body s =
     elim body [
       | Plain code ↦ with_flags m (operated input (operation_of code) s)
@@ -231,7 +231,7 @@ performed_as input m body s =
       | Jmp to ↦ branched true to s
     ]
 
-performs : (to : ℕ) (input : Option ℕ) (m : Micro) (body : Body) (s : State) → body_avoids to s.mpc m.nxt body ≡ true → Keeps to (performed_as input m body s)
+performs : (to : ℕ) (input : Option ℕ) (m : Micro) (body : Body) (s : MachineState) → body_avoids to s.mpc m.nxt body ≡ true → Keeps to (performed_as input m body s)
 performs to input m (Plain code) s avoiding = on to s.mpc m.nxt m.opd (operated input (operation_of code) s) (operated_mpc input (operation_of code) s) avoiding
 performs to input m (Stm place) s avoiding = on to s.mpc m.nxt m.opd (stored place s) refl avoiding
 performs to input m (Ldm place) s avoiding = on to s.mpc m.nxt m.opd (pushed (word_at s place) s) refl avoiding
@@ -240,15 +240,15 @@ performs to input m (Bz branch) s avoiding = off to s.mpc branch (s.a == 0) (pop
 performs to input m (Bnz branch) s avoiding = off to s.mpc branch (nat_lt 0 s.a) (popped s) refl avoiding
 performs to input m (Jmp branch) s avoiding = off to s.mpc branch true s refl avoiding
 
-keeps_either : (to : ℕ) (b : Bool) (x y : State) → Keeps to x → Keeps to y → Keeps to (if b then x else y)
+keeps_either : (to : ℕ) (b : Bool) (x y : MachineState) → Keeps to x → Keeps to y → Keeps to (if b then x else y)
 keeps_either to true x y first second = first
 keeps_either to false x y first second = second
 
-runs : (to : ℕ) (input : Option ℕ) (o : Option Micro) (s : State) → Keeps to s → avoids to s.mpc o ≡ true → Keeps to (ran input o s)
+runs : (to : ℕ) (input : Option ℕ) (o : Option Micro) (s : MachineState) → Keeps to s → avoids to s.mpc o ≡ true → Keeps to (ran input o s)
 runs to input None s keeps avoiding = keeps
 runs to input (Some m) s keeps avoiding = keeps_either to (waits m s) s (performed input m s) keeps (performs to input m m.body s avoiding)
 
-cycle_keeps : (to : ℕ) → IsApart to → (input : Option ℕ) (s : State) → Keeps to s → Keeps to (cycle_of input s)
+cycle_keeps : (to : ℕ) → IsApart to → (input : Option ℕ) (s : MachineState) → Keeps to s → Keeps to (cycle_of input s)
 unfolding cycle_of
 cycle_keeps to is input s keeps =
     let here : Keeps to (counted s) = record { small = keeps.small; entered = keeps.entered } in
@@ -292,14 +292,14 @@ module _ (test : Option Micro → Bool) (to : ℕ) (only : each (λ at word. not
       (cases_lt at (length WORDS))
 
 -- where the machine is, without a stall
-pub record IsReady (to : ℕ) (s : State) : Type 0 where
+pub record IsReady (to : ℕ) (s : MachineState) : Type 0 where
   pub still : s.stall ≡ 0
   pub at : s.mpc ≡ to
 
 unstalled : (n : ℕ) → nat_lt 0 n ≡ false → n ≡ 0
 unstalled n e = omega (arith, ltb-false 0 n e)
 
-pub asks_there : (s : State) → asks_input s ≡ true → IsReady reading s
+pub asks_there : (s : MachineState) → asks_input s ≡ true → IsReady reading s
 unfolding asks_input
 asks_there s asking = by (nat_lt 0 s.stall) refl asking
   where
@@ -315,7 +315,7 @@ puts_there (Some m) a some = by (body_outputs m.body) refl
     by true e = refl
     by false e = absurd (some (ap (λ t. if t then a % 2 ^ 8 ∷ [] else []) e))
 
-pub output_there : (s : State) → output_of s ≢ [] → IsReady writing s
+pub output_there : (s : MachineState) → output_of s ≢ [] → IsReady writing s
 unfolding output_of
 output_there s some = by (nat_lt 0 s.stall) refl some
   where
@@ -328,11 +328,11 @@ output_there s some = by (nat_lt 0 s.stall) refl some
 self_eq : (k : ℕ) → (k == k) ≡ true
 self_eq k = eq-eqb k k refl
 
-boundary_here : (s : State) → s.halt ≡ Running → s.stall ≡ 0 → s.mpc ≡ entry_of s.opcode → at_boundary s ≡ true
+boundary_here : (s : MachineState) → s.halt ≡ Running → s.stall ≡ 0 → s.mpc ≡ entry_of s.opcode → at_boundary s ≡ true
 boundary_here s running still at = rw (running, still, at, self_eq (entry_of s.opcode)) refl
 
 -- On a way without a boundary no such word is come to: the machine was there.
-pub same_state : (to : ℕ) → IsApart to → (old new : State) (cycles : ℕ) (answers : List (Option ℕ)) → ((more : List (Option ℕ)) → (run cycles (begun old (answers ++ more))).state ≡ new)
+pub same_state : (to : ℕ) → IsApart to → (old new : MachineState) (cycles : ℕ) (answers : List (Option ℕ)) → ((more : List (Option ℕ)) → (run cycles (begun old (answers ++ more))).state ≡ new)
     → ((i : ℕ) → suc i < suc cycles → at_boundary (run (suc i) (begun old answers)).state ≡ false) → Keeps to old → new.halt ≡ Running → IsReady to new → new ≡ old
 same_state to is old new zero answers ran quiet keeps running ready = sym (ran [])
 same_state to is old new (suc k) answers ran quiet keeps running ready =
@@ -343,13 +343,13 @@ same_state to is old new (suc k) answers ran quiet keeps running ready =
     absurd (cc)
 
 -- at an instruction, or about to look for a handler
-keeps_at : (to : ℕ) → to ≢ RAISE → (P : Program) (pl : Places) (m : State) (s : bytecode.State) (f : bytecode.Frame) (b : CodeBody) (mode : Ending) → IsGoing mode → IsAt P pl m s f b mode → Keeps to m
+keeps_at : (to : ℕ) → to ≢ RAISE → (P : Program) (pl : Places) (m : MachineState) (s : bytecode.State) (f : bytecode.Frame) (b : CodeBody) (mode : Ending) → IsGoing mode → IsAt P pl m s f b mode → Keeps to m
 keeps_at to other P pl m s f b modes.Running going at = record { small = subst (λ k. k < 2048) (sym at.mpc) (entry_is_short m.opcode); entered = λ same. sym at.mpc ∙ same }
 keeps_at to other P pl m s f b (modes.Raising p) going at = record { small = omega (arith, at.mpc); entered = λ same. absurd (other (sym same ∙ at.mpc)) }
 keeps_at to other P pl m s f b modes.Ended going at = absurd going
 keeps_at to other P pl m s f b (modes.Uncaught c) going at = absurd going
 
-module _ (P : Program) (pl : Places) (s : bytecode.State) (f : bytecode.Frame) (b : CodeBody) (mode : Ending) (going : IsGoing mode) (old : State) (at : IsAt P pl old s f b mode) (new : State) (t0 t1 : Told) where
+module _ (P : Program) (pl : Places) (s : bytecode.State) (f : bytecode.Frame) (b : CodeBody) (mode : Ending) (going : IsGoing mode) (old : MachineState) (at : IsAt P pl old s f b mode) (new : MachineState) (t0 t1 : Told) where
   pub same_read : Broke old new t0 t1 faults.Input → new ≡ old
   same_read r = same_state reading reading_apart old new r.cycles r.answers r.ran.state r.quiet (keeps_at reading (λ e. omega (arith, e)) P pl old s f b mode going at) r.tried.0 (asks_there new r.tried.4)
 

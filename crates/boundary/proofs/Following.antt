@@ -26,7 +26,7 @@ use Rattle.boundary.specs.Answers.{answer_of, is_going}
 use Rattle.boundary.specs.Setting.{Setting, Stands}
 use Rattle.boundary.specs.Session.{Session}
 use Rattle.boundary.specs.Activations.{Stage, Follows}
-use Rattle.boundary.specs.Advances.{Advances, StepsTo, Fails}
+use Rattle.boundary.specs.Advances.{Advances, StepsTo, FailsOnDevice}
 use Rattle.boundary.specs.Runs.{RunsOn, IsEnd, RunsAll}
 use Rattle.boundary.specs.declared.top.TopFrame.{TopFrame}
 use Rattle.boundary.specs.Tops.{IsTopOf}
@@ -66,23 +66,23 @@ seen_once b = append-nil (seen_at b)
 
 module _ (g : Setting) (limit : ℕ) (a : Stage) where
   -- all that was seen where the run came to a machine
-  abbrev pub seen_to : {now : machine.State} {t0 t1 : Told} {K : State → Type 0} → RunsOn g limit a now t0 t1 K → List Here
+  abbrev pub seen_to : {now : machine.MachineState} {t0 t1 : Told} {K : State → Type 0} → RunsOn g limit a now t0 t1 K → List Here
   seen_to r = flat_map seen_at (stages_between g limit a r.run.steps r.last r.run.stages)
 
 -- ---- the run goes on, and the follower has come over all that was seen
 
 -- where these methods are the program's, of a run that came to a machine that stands for a state of which this holds
-pub record IsFollowed {F : Type 0} (after : F → Here → F) (g : Setting) (limit : ℕ) (a : Stage) (now : machine.State) (told told' : Told) (K : State → Type 0) (Known : Type 0) (first f : F) : Type 0 where
+pub record IsFollowed {F : Type 0} (after : F → Here → F) (g : Setting) (limit : ℕ) (a : Stage) (now : machine.MachineState) (told told' : Told) (K : State → Type 0) (Known : Type 0) (first f : F) : Type 0 where
   pub run : RunsOn g limit a now told told' K
   pub seen : Known → f ≡ followed after first (seen_to g limit a run)
   pub small : Known → All HasSmallCounts (seen_to g limit a run)
 
 -- so it is of a run that goes on
-abbrev pub IsFar : {F : Type 0} → (after : F → Here → F) → (g : Setting) → (limit : ℕ) → (a : Stage) → (Known : Type 0) → (first : F) → (now : machine.State) → (told told' : Told) → F → Type 0
+abbrev pub IsFar : {F : Type 0} → (after : F → Here → F) → (g : Setting) → (limit : ℕ) → (a : Stage) → (Known : Type 0) → (first : F) → (now : machine.MachineState) → (told told' : Told) → F → Type 0
 IsFar after g limit a Known first now told told' f = IsFollowed after g limit a now told told' (λ s. IsGoing s.mode) Known first f
 
 -- and this tells the top frame at the boundary to which it came, which the follower was handed last
-pub record IsFarTop {F : Type 0} (after : F → Here → F) (g : Setting) (limit : ℕ) (a : Stage) (Known : Type 0) (first : F) (now : machine.State) (told told' : Told) (f : F) (top : TopFrame) : Type 0 where
+pub record IsFarTop {F : Type 0} (after : F → Here → F) (g : Setting) (limit : ℕ) (a : Stage) (Known : Type 0) (first : F) (now : machine.MachineState) (told told' : Told) (f : F) (top : TopFrame) : Type 0 where
   pub far : IsFar after g limit a Known first now told told' f
   pub top_is : Known → IsTopOf far.run.last top
   pub handed : Known → WasHanded after f (here_of far.run.last)
@@ -104,7 +104,7 @@ module _ {F : Type 0} (after : F → Here → F) (laws : AreRunLaws) (keep : Cyc
     handed = λ known. (first, is ∙ ap (after first) (same known (top_is known)));
   }
 
-  module _ (now new : machine.State) (t0 t1 t2 : Told) (f : F) (far : IsFar after g limit a Known first now t0 t1 f) (below : now.clock < limit) where
+  module _ (now new : machine.MachineState) (t0 t1 t2 : Told) (f : F) (far : IsFar after g limit a Known first now t0 t1 f) (below : now.clock < limit) where
     abbrev last : Stage
     last = far.run.last
 
@@ -112,7 +112,7 @@ module _ {F : Type 0} (after : F → Here → F) (laws : AreRunLaws) (keep : Cyc
     here = subst (λ m. Stands g m last.state) far.run.now_is far.run.run.stands
 
     under : last.machine.clock < limit
-    under = omega (arith, below, ap (λ (m : machine.State). m.clock) far.run.now_is)
+    under = omega (arith, below, ap (λ (m : machine.MachineState). m.clock) far.run.now_is)
 
     abbrev AllSteps : Result Boundary DeviceFault → Type 0
     AllSteps answer = (s : State) → Stands g now s → StepsTo g s now new t1 t2 answer
@@ -126,7 +126,7 @@ module _ {F : Type 0} (after : F → Here → F) (laws : AreRunLaws) (keep : Cyc
     reach : (K : State → Type 0) (v : Advances g last.state now new t1 t2) → K v.next → IsMore K
     unfolding run_more
     reach K v holds =
-        let V : machine.State → Type 0 = λ m. (w : Advances g last.state m new t1 t2) → K w.next → IsMore K in
+        let V : machine.MachineState → Type 0 = λ m. (w : Advances g last.state m new t1 t2) → K w.next → IsMore K in
         subst V far.run.now_is (λ w k.
         let c : Stage = record { machine = new; state = w.next } in
         let follows : Follows g last c = record { stands = far.run.run.stands; answer = w.answer; byte = w.byte; is_next = w.is_next; comes = w.comes; new_is = w.new_is } in
@@ -187,7 +187,7 @@ module _ {F : Type 0} (after : F → Here → F) (laws : AreRunLaws) (keep : Cyc
         record { run = more.run; seen = come_over (IsEnd limit new (ends.Uncaught class)) more [] none; small = small_over (IsEnd limit new (ends.Uncaught class)) more [] none (All-nil HasSmallCounts) }
 
   -- the limit is come to
-  pub followed_spent : (now : machine.State) (t0 t1 : Told) (f : F) → IsFar after g limit a Known first now t0 t1 f → limit ≤ now.clock → IsFollowed after g limit a now t0 t1 (IsEnd limit now ends.Spent) Known first f
+  pub followed_spent : (now : machine.MachineState) (t0 t1 : Told) (f : F) → IsFar after g limit a Known first now t0 t1 f → limit ≤ now.clock → IsFollowed after g limit a now t0 t1 (IsEnd limit now ends.Spent) Known first f
   followed_spent now t0 t1 f far past = record { run = record { last = far.run.last; now_is = far.run.now_is; run = far.run.run; holds = (far.run.holds, past) }; seen = far.seen; small = far.small }
 
   -- ---- a machine that has halted
@@ -217,11 +217,11 @@ module _ {F : Type 0} (after : F → Here → F) (laws : AreRunLaws) (keep : Cyc
 
 -- ---- how the run ends
 
-pub all_run : {F : Type 0} (after : F → Here → F) (limit : ℕ) (old : Session) (now : machine.State) (told told' : Told) (first f : F) (end : Result RunEnd DeviceFault) → FollowsAll after limit old now told told' first f end → RunsAll limit old.machine now told told' end
+pub all_run : {F : Type 0} (after : F → Here → F) (limit : ℕ) (old : Session) (now : machine.MachineState) (told told' : Told) (first f : F) (end : Result RunEnd DeviceFault) → FollowsAll after limit old now told told' first f end → RunsAll limit old.machine now told told' end
 unfolding FollowsAll RunsAll
 all_run after limit old now told told' first f end follows = λ g s is stands. (follows g s is stands).runs
 
-module _ {F : Type 0} (after : F → Here → F) (g : Setting) (limit : ℕ) (old : Session) (s : State) (now : machine.State) (t0 t1 : Told) (first f : F) where
+module _ {F : Type 0} (after : F → Here → F) (g : Setting) (limit : ℕ) (old : Session) (s : State) (now : machine.MachineState) (t0 t1 : Told) (first f : F) where
   abbrev start : Stage
   start = record { machine = old.machine; state = s }
 
@@ -232,7 +232,7 @@ module _ {F : Type 0} (after : F → Here → F) (g : Setting) (limit : ℕ) (ol
   to_end end h = record { runs = h.run; follower_is = h.seen; small = h.small }
 
   -- a call on the device failed in the next step
-  pub to_fault : (new : machine.State) (t2 : Told) → IsAt (λ t. IsGoing t.mode) → now.clock < limit → (fault : DeviceFault) → ((t : State) → Stands g now t → Fails g fault t now new t1 t2)
+  pub to_fault : (new : machine.MachineState) (t2 : Told) → IsAt (λ t. IsGoing t.mode) → now.clock < limit → (fault : DeviceFault) → ((t : State) → Stands g now t → FailsOnDevice g fault t now new t1 t2)
       → FollowsTo after g limit old s new t0 t2 first f (Err fault)
   to_fault new t2 far below fault all =
       let last = far.run.last in
@@ -243,8 +243,8 @@ module _ {F : Type 0} (after : F → Here → F) (g : Setting) (limit : ℕ) (ol
           before = t1;
           run = far.run.run;
           going = far.run.holds;
-          below = omega (arith, below, ap (λ (m : machine.State). m.clock) far.run.now_is);
-          fails = subst (λ m. Fails g fault last.state m new t1 t2) (sym far.run.now_is) (all last.state stands);
+          below = omega (arith, below, ap (λ (m : machine.MachineState). m.clock) far.run.now_is);
+          fails = subst (λ m. FailsOnDevice g fault last.state m new t1 t2) (sym far.run.now_is) (all last.state stands);
         };
         follower_is = far.seen;
         small = far.small;

@@ -16,7 +16,7 @@ use Rattle.bytecode_model.specs.Sizes.{value_words}
 use Rattle.bytecode_model.specs.Effects.{Effect, Stuck, Go, Make, WritePart, WriteStatic, Take, Give, Call, Leave, Raise, effect, fault_object, StackOverflowError}
 use Rattle.bytecode_model.specs.Steps.{first_frame, with_top, raising, left, resumed, written, applied, row_at, handler_for, unwound, class_of, step_in, step}
 use Rattle.image_facts.specs.Places.{Places}
-use Rattle.machine_stands.specs.Frames.{FrameWords, AreFrames, stacked}
+use Rattle.machine_stands.specs.Frames.{FrameWords, AreWordsOfFrames, stacked}
 use Rattle.machine_stands.specs.StandsFor.{StandsFor}
 use Rattle.machine_stands.specs.Counted.{FiveAreSaved}
 use Rattle.machine_stands.proofs.Counting.{locals_count, operands_count}
@@ -36,7 +36,7 @@ under (f ∷ fs) = height fs
 
 -- ---- on the machine
 
-pub words_high : FiveAreSaved → (P : Program) (pl : Places) (place : ℕ → ℕ) (fs : List Frame) (ws : List FrameWords) → AreFrames P pl place fs ws → length (stacked ws) ≡ height fs
+pub words_high : FiveAreSaved → (P : Program) (pl : Places) (place : ℕ → ℕ) (fs : List Frame) (ws : List FrameWords) → AreWordsOfFrames P pl place fs ws → length (stacked ws) ≡ height fs
 words_high five P pl place [] [] h = refl
 words_high five P pl place [] (w ∷ ws) h = absurd h
 words_high five P pl place (f ∷ fs) [] h = absurd h
@@ -44,7 +44,7 @@ words_high five P pl place (f ∷ fs) (w ∷ ws) h =
     omega (arith, words_high five P pl place fs ws h.1, five P pl fs ws w.saved h.0.saved, locals_count place f.locals w.locals h.0.locals, operands_count place f.operands w.operands h.0.operands, length-append (stacked ws) (w.locals ++ (w.saved ++ reverse w.operands)), length-append w.locals (w.saved ++ reverse w.operands), length-append w.saved (reverse w.operands), length-reverse w.operands)
 
 -- VP stands above the words of the callers
-pub vp_high : FiveAreSaved → (P : Program) (pl : Places) (n size : ℕ) (m : machine.State) (s : State) → StandsFor P pl n size m s → m.vp ≡ STACK + under s.frames
+pub vp_high : FiveAreSaved → (P : Program) (pl : Places) (n size : ℕ) (m : machine.MachineState) (s : State) → StandsFor P pl n size m s → m.vp ≡ STACK + under s.frames
 vp_high five P pl n size m s h = omega (arith, h.vp, words_high five P pl _ h.callers h.below h.are_frames.1, ap under h.frames)
 
 -- a frame has some words

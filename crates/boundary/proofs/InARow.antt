@@ -42,7 +42,7 @@ module _ (g : Setting) where
           ends = refl;
         }
 
-    in_a_row : (now : machine.State) (told told' : Told) (end : Result RunEnd DeviceFault) (runs : RunsTo g limit a now told told' end) → IsRow g a (stages_of g limit a now told told' end runs)
+    in_a_row : (now : machine.MachineState) (told told' : Told) (end : Result RunEnd DeviceFault) (runs : RunsTo g limit a now told told' end) → IsRow g a (stages_of g limit a now told told' end runs)
     in_a_row now told told' (Ok end) r = (between r.run.steps r.last r.run.stages r.run.stands).is
     in_a_row now told told' (Err fault) r = (between r.run.steps r.last r.run.stages r.run.stands).is
 

@@ -15,7 +15,7 @@ use Rattle.boundary.specs.declared.answer.Boundary.{Boundary}
 use Rattle.boundary.specs.Answers.{answer_of, is_going, goes_on}
 use Rattle.boundary.specs.Setting.{Setting}
 use Rattle.boundary.specs.Session.{Session, HasWaits, IsInStep, KeepsStep, IsAtStep}
-use Rattle.boundary.specs.Advances.{Reaches, StepsTo}
+use Rattle.boundary.specs.Advances.{ReachesBoundary, StepsTo}
 
 run_waits : CyclesKeep → (k : ℕ) (c : Scene) → HasWaits c.state → HasWaits (run k c).state
 run_waits keep zero c h = h
@@ -49,14 +49,14 @@ at_step n r e here = record {
   waits = here.waits;
 }
 
-module _ (keep : CyclesKeep) (n : ℕ) (r : Session) (here : IsInStep n r) (new : machine.State) (t0 t1 : Told) where
+module _ (keep : CyclesKeep) (n : ℕ) (r : Session) (here : IsInStep n r) (new : machine.MachineState) (t0 t1 : Told) where
   abbrev g : Setting
   g = here.setting
 
-  reached : (answer : Boundary) → Reaches g here.state r.machine new t0 t1 answer → IsInStep n (record { machine = new; methods = r.methods; mode = Ok answer })
+  reached : (answer : Boundary) → ReachesBoundary g here.state r.machine new t0 t1 answer → IsInStep n (record { machine = new; methods = r.methods; mode = Ok answer })
   reached answer (a, mode) =
-      let W : machine.State → Type 0 = λ m. HasWaits m in
-      let S : machine.State → Type 0 = λ m. StandsFor g.program g.places g.chip g.memory m a.next in
+      let W : machine.MachineState → Type 0 = λ m. HasWaits m in
+      let S : machine.MachineState → Type 0 = λ m. StandsFor g.program g.places g.chip g.memory m a.next in
       record {
         setting = here.setting;
         is_setting = here.is_setting;

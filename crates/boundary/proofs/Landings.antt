@@ -15,17 +15,17 @@ use Rattle.image_facts.specs.Places.{Places}
 use Rattle.machine_stands.specs.Comes.{ComesTo}
 
 -- after so many cycles, which take these answers, the machine is at its next boundary
-pub record Lands (old : machine.State) (answers : List (Option ℕ)) (cycles : ℕ) (new : machine.State) : Type 0 where
+pub record Lands (old : machine.MachineState) (answers : List (Option ℕ)) (cycles : ℕ) (new : machine.MachineState) : Type 0 where
   pub positive : 0 < cycles
   pub ran : (more : List (Option ℕ)) → (run cycles (begun old (answers ++ more))).state ≡ new
   pub left : (more : List (Option ℕ)) → (run cycles (begun old (answers ++ more))).answers ≡ more
   pub boundary : at_boundary new ≡ true
   pub quiet : HasNoBoundary cycles old answers
 
-pub comes_lands : (P : Program) (pl : Places) (n size : ℕ) (m : machine.State) (s s' : State) (c : ComesTo P pl n size m s s') → Lands m c.answers c.cycles c.new
+pub comes_lands : (P : Program) (pl : Places) (n size : ℕ) (m : machine.MachineState) (s s' : State) (c : ComesTo P pl n size m s s') → Lands m c.answers c.cycles c.new
 comes_lands P pl n size m s s' c = record { positive = c.positive; ran = c.ran; left = c.left; boundary = c.boundary; quiet = c.quiet }
 
-pub arrived_lands : (old new : machine.State) (t0 t1 : Told) (a : Arrived old new t0 t1) → Lands old a.answers a.cycles new
+pub arrived_lands : (old new : machine.MachineState) (t0 t1 : Told) (a : Arrived old new t0 t1) → Lands old a.answers a.cycles new
 arrived_lands old new t0 t1 a = record { positive = a.positive; ran = a.ran.state; left = a.ran.left; boundary = a.boundary; quiet = a.quiet }
 
 -- answers of the two that begin alike, as far as both take any
@@ -50,7 +50,7 @@ left_over-length true (answer ∷ answers) h = omega arith
 left_over-length false answers h = absurd (cc)
 
 -- what was given and put out before a call on the device failed, of what the whole way to the boundary takes and puts out
-pub record Within (taken given : List (Option ℕ)) (whole part : List ℕ) (cycles broken : ℕ) (new : machine.State) : Type 0 where
+pub record Within (taken given : List (Option ℕ)) (whole part : List ℕ) (cycles broken : ℕ) (new : machine.MachineState) : Type 0 where
   pub below : broken < cycles
   pub fewer : length given ≤ length taken
   pub rest : List ℕ
@@ -59,14 +59,14 @@ pub record Within (taken given : List (Option ℕ)) (whole part : List ℕ) (cyc
 
 module _ (laws : AreRunLaws) where
   -- a run that leaves what stands behind its answers is at no boundary before its last, whatever stands there
-  quiet_more : (old : machine.State) (answers : List (Option ℕ)) (cycles bound : ℕ) → UsesUp cycles (begun old answers) → bound ≤ suc cycles → HasNoBoundary bound old answers
+  quiet_more : (old : machine.MachineState) (answers : List (Option ℕ)) (cycles bound : ℕ) → UsesUp cycles (begun old answers) → bound ≤ suc cycles → HasNoBoundary bound old answers
       → (more : List (Option ℕ)) → HasNoBoundary bound old (answers ++ more)
   quiet_more old answers cycles bound uses most quiet more i below =
       let apart : cycles ≡ suc i + (cycles - suc i) = omega (arith, below, most) in
       let U : ℕ → Type 0 = λ k. UsesUp k (begun old answers) in
       ap (λ (c : Scene). at_boundary c.state) (laws.run_followed (suc i) (cycles - suc i) (begun old answers) (subst U apart uses) more) ∙ quiet i below
 
-  module _ (old new new' : machine.State) (taken given : List (Option ℕ)) (cycles cycles' : ℕ) (first : Lands old taken cycles new) (meet : Meet taken given) where
+  module _ (old new new' : machine.MachineState) (taken given : List (Option ℕ)) (cycles cycles' : ℕ) (first : Lands old taken cycles new) (meet : Meet taken given) where
     -- no boundary comes earlier on another run with the same answers, as far as it was quiet
     not_before : (bound : ℕ) → UsesUp cycles' (begun old given) → bound ≤ suc cycles' → HasNoBoundary bound old given → cycles < bound → ⊥
     not_before bound uses most quiet below =
@@ -80,12 +80,12 @@ module _ (laws : AreRunLaws) where
         cc
 
   -- two runs that take the same answers come to the same boundary
-  pub record SameLanding (new new' : machine.State) (taken given : List (Option ℕ)) (cycles cycles' : ℕ) : Type 0 where
+  pub record SameLanding (new new' : machine.MachineState) (taken given : List (Option ℕ)) (cycles cycles' : ℕ) : Type 0 where
     pub cycles_are : cycles ≡ cycles'
     pub new_is : new ≡ new'
     pub answers_are : taken ≡ given
 
-  pub same_landing : (old new new' : machine.State) (taken given : List (Option ℕ)) (cycles cycles' : ℕ) → Lands old taken cycles new → Lands old given cycles' new' → Meet taken given → SameLanding new new' taken given cycles cycles'
+  pub same_landing : (old new new' : machine.MachineState) (taken given : List (Option ℕ)) (cycles cycles' : ℕ) → Lands old taken cycles new → Lands old given cycles' new' → Meet taken given → SameLanding new new' taken given cycles cycles'
   same_landing old new new' taken given cycles cycles' first second meet =
       let back : Meet given taken = record { behind = meet.behind'; behind' = meet.behind; same = sym meet.same } in
       let here : cycles ≡ cycles' =
@@ -107,7 +107,7 @@ module _ (laws : AreRunLaws) where
       }
 
   -- the way that broke off is a part of the whole
-  pub broke_within : (old whole new : machine.State) (t0 t1 : Told) (fault : DeviceFault) (taken : List (Option ℕ)) (cycles : ℕ) (b : Broke old new t0 t1 fault) → Lands old taken cycles whole → Meet taken b.answers
+  pub broke_within : (old whole new : machine.MachineState) (t0 t1 : Told) (fault : DeviceFault) (taken : List (Option ℕ)) (cycles : ℕ) (b : Broke old new t0 t1 fault) → Lands old taken cycles whole → Meet taken b.answers
       → Within taken b.answers (output_during cycles (begun old taken)) (output_during b.cycles (begun old b.answers)) cycles b.cycles new
   broke_within old whole new t0 t1 fault taken cycles b first meet =
       let j = b.cycles in

@@ -20,12 +20,12 @@ module _ (keep : CyclesKeep) where
   clock_after (suc n) c = omega (arith, clock_after n (next_scene c), (keep (given (asks_input c.state) c.answers) c.state).clock)
 
   -- a step takes cycles
-  pub clock_rises : (g : Setting) (s : State) (old new : machine.State) (t0 t1 : Told) → Advances g s old new t0 t1 → old.clock < new.clock
+  pub clock_rises : (g : Setting) (s : State) (old new : machine.MachineState) (t0 t1 : Told) → Advances g s old new t0 t1 → old.clock < new.clock
   clock_rises g s old new t0 t1 a =
-      let ends = ap (λ (m : machine.State). m.clock) (a.ran.state []) in
+      let ends = ap (λ (m : machine.MachineState). m.clock) (a.ran.state []) in
       omega (arith, ends, clock_after a.comes.cycles (begun old (a.comes.answers ++ [])), a.comes.positive)
 
-  pub passes_time : (g : Setting) (s : State) (old new : machine.State) (t0 t1 : Told) (answer : Result Boundary DeviceFault) → StepsTo g s old new t0 t1 answer → PassesTime old new answer
+  pub passes_time : (g : Setting) (s : State) (old new : machine.MachineState) (t0 t1 : Told) (answer : Result Boundary DeviceFault) → StepsTo g s old new t0 t1 answer → PassesTime old new answer
   passes_time g s old new t0 t1 (Ok answers.Bytecode) h = clock_rises g s old new t0 t1 h.0
   passes_time g s old new t0 t1 (Ok answers.Raise) h = clock_rises g s old new t0 t1 h.0
   passes_time g s old new t0 t1 (Ok answers.Halted) h = tt
@@ -34,8 +34,8 @@ module _ (keep : CyclesKeep) where
 
   step_takes : (g : Setting) (a b : Stage) → Follows g a b → a.machine.clock < b.machine.clock
   step_takes g a b f =
-      let ends = ap (λ (m : machine.State). m.clock) (f.comes.ran []) in
-      let is = ap (λ (m : machine.State). m.clock) f.new_is in
+      let ends = ap (λ (m : machine.MachineState). m.clock) (f.comes.ran []) in
+      let is = ap (λ (m : machine.MachineState). m.clock) f.new_is in
       omega (arith, ends, is, clock_after f.comes.cycles (begun a.machine (f.comes.answers ++ [])), f.comes.positive)
 
   stay_takes : (g : Setting) (frames : ℕ) (a : Stage) (cs : List Stage) (b : Stage) → StaysAbove g frames a cs b → a.machine.clock < b.machine.clock

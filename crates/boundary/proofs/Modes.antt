@@ -18,7 +18,7 @@ use Rattle.boundary.specs.StageLaws.{StagesAgree}
 use Rattle.boundary.proofs.Ended.{EndLaws, End, Returned, Thrown, end_of}
 use Rattle.boundary.proofs.Stages.{at_mode}
 
-modes_agree : StagesAgree → EndLaws → (m : machine.State) (g h : Setting) (s t : State) → IsSetting g → IsSetting h → Stands g m s → Stands h m t → HasWaits m → answer_of t.mode ≡ answer_of s.mode
+modes_agree : StagesAgree → EndLaws → (m : machine.MachineState) (g h : Setting) (s t : State) → IsSetting g → IsSetting h → Stands g m s → Stands h m t → HasWaits m → answer_of t.mode ≡ answer_of s.mode
 modes_agree agree laws m g h s t is_g is_h st_g st_h waits = by_mode s.mode refl
   where
     both : End g m s → End h m t → answer_of t.mode ≡ answer_of s.mode

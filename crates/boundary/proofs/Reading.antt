@@ -20,10 +20,10 @@ use Rattle.machine_frames.specs.Shows as frames
 use Rattle.machine_frames.specs.Shows.{Shows, IsShown, IsRunning, EachRunning, IsRaising, EachRaising, top_frame}
 use Rattle.boundary.specs.declared.answer.Boundary.{Boundary}
 use Rattle.boundary.specs.declared.answer.Boundary.TheVariants as answers
-use Rattle.boundary.specs.Answers.{answer_of, goes_on, is_raise, IsGoing}
+use Rattle.boundary.specs.Answers.{answer_of, goes_on, is_raise, HasFrames}
 use Rattle.boundary.specs.Opcodes.{next_opcode, opcode_in}
 use Rattle.boundary.specs.Setting.{Setting, limits}
-use Rattle.boundary.specs.Session.{Session, IsStateOf, IsInStep, KeepsStep, EachState, EachTop}
+use Rattle.boundary.specs.Session.{Session, IsStateOf, IsInStep, KeepsStep, EachShownState, EachShownTop}
 use Rattle.boundary.specs.StageLaws.{StagesAgree}
 use Rattle.boundary.proofs.Keeping.{going_state, going_step}
 use Rattle.boundary.proofs.Stages.{some_in}
@@ -41,14 +41,14 @@ raise_so (Err fault) b is on = let clash : false ≡ true = sym is ∙ on in abs
 pub not_raise : (mode : Result Boundary DeviceFault) (b : Bool) → b ≡ is_raise mode → b ≡ false → mode ≡ ok answers.Raise → ⊥
 not_raise mode b is off raise = let clash : true ≡ false = sym (ap is_raise raise) ∙ sym is ∙ off in cc
 
-goes_so : (mode : Result Boundary DeviceFault) → IsGoing mode → goes_on mode ≡ true
+goes_so : (mode : Result Boundary DeviceFault) → HasFrames mode → goes_on mode ≡ true
 goes_so mode going = ⊎_elim (λ e. ap goes_on e) (λ e. ap goes_on e) going
 
-pub shows : FittingStatesAreWellFormed → (g : Setting) (methods : List CodedMethod) (m : machine.State) (s : State) → IsStateOf g methods m s → Shows methods m g.program g.places g.chip g.memory s
+pub shows : FittingStatesAreWellFormed → (g : Setting) (methods : List CodedMethod) (m : machine.MachineState) (s : State) → IsStateOf g methods m s → Shows methods m g.program g.places g.chip g.memory s
 shows well g methods m s h = record { says = h.is_setting.says; methods_are = h.methods_are; stands = h.stands.stands; formed = well g.program g.types (limits g) h.is_setting.typed s h.stands.fits }
 
 -- a run that goes on
-module _ (well : FittingStatesAreWellFormed) (n : ℕ) (r : Session) (going : IsGoing r.mode) (kept : KeepsStep n r r.mode) where
+module _ (well : FittingStatesAreWellFormed) (n : ℕ) (r : Session) (going : HasFrames r.mode) (kept : KeepsStep n r r.mode) where
   pub here : IsInStep n r
   here = going_step n r r.mode (goes_so r.mode going) kept
 
@@ -79,7 +79,7 @@ is_raising Ended e = absurd (cc)
 is_raising (Uncaught c) e = absurd (cc)
 
 -- the opcode that the machine is about to run is that of the state's instruction
-opcode_stands : (P : Program) (pl : Places) (n size : ℕ) (m : machine.State) (s : State) → StandsFor P pl n size m s → s.mode ≡ Running → next_opcode P s ≡ Some m.opcode
+opcode_stands : (P : Program) (pl : Places) (n size : ℕ) (m : machine.MachineState) (s : State) → StandsFor P pl n size m s → s.mode ≡ Running → next_opcode P s ≡ Some m.opcode
 opcode_stands P pl n size m s st mode =
     let at = subst (IsAt P pl m s st.top st.body) mode st.at in
     ap (opcode_in P s) mode
@@ -90,9 +90,9 @@ opcode_stands P pl n size m s st mode =
 -- ---- what is answered
 
 -- the session as it is seen, and the methods as they are lent
-module _ (well : FittingStatesAreWellFormed) (agree : StagesAgree) (n : ℕ) (r now : Session) (is : r ≡ now) (going : IsGoing now.mode) (kept : KeepsStep n r r.mode) (methods : List CodedMethod) (same : methods ≡ r.methods) where
-  going_now : IsGoing r.mode
-  going_now = subst (λ (z : Session). IsGoing z.mode) (sym is) going
+module _ (well : FittingStatesAreWellFormed) (agree : StagesAgree) (n : ℕ) (r now : Session) (is : r ≡ now) (going : HasFrames now.mode) (kept : KeepsStep n r r.mode) (methods : List CodedMethod) (same : methods ≡ r.methods) where
+  going_now : HasFrames r.mode
+  going_now = subst (λ (z : Session). HasFrames z.mode) (sym is) going
 
   with_state : (h : IsShown n methods r.machine) × (h.state ≡ (here well n r going_now kept).state)
   with_state = subst (λ zs. (h : IsShown n zs r.machine) × (h.state ≡ (here well n r going_now kept).state)) (sym same) (shown well n r going_now kept)
@@ -100,11 +100,11 @@ module _ (well : FittingStatesAreWellFormed) (agree : StagesAgree) (n : ℕ) (r 
   pub is_shown : IsShown n methods r.machine
   is_shown = with_state.0
 
-  pub each_state : (K : State → Type 0) → frames.EachState methods r.machine K → EachState now K
-  each_state K each = subst (λ (z : Session). EachState z K) is (λ g s h. each g.program g.places g.chip g.memory s (shows well g methods r.machine s (subst (λ zs. IsStateOf g zs r.machine s) (sym same) h)))
+  pub each_state : (K : State → Type 0) → frames.EachState methods r.machine K → EachShownState now K
+  each_state K each = subst (λ (z : Session). EachShownState z K) is (λ g s h. each g.program g.places g.chip g.memory s (shows well g methods r.machine s (subst (λ zs. IsStateOf g zs r.machine s) (sym same) h)))
 
-  each_with : (K : State → Type 0) → ((g : Setting) (s : State) → IsStateOf g r.methods r.machine s → K s) → EachState now K
-  each_with K each = subst (λ (z : Session). EachState z K) is each
+  each_with : (K : State → Type 0) → ((g : Setting) (s : State) → IsStateOf g r.methods r.machine s → K s) → EachShownState now K
+  each_with K each = subst (λ (z : Session). EachShownState z K) is each
 
   each_of : (K : Setting → State → Type 0) → ((g : Setting) (s : State) → IsStateOf g r.methods r.machine s → K g s) → (g : Setting) (s : State) → IsStateOf g now.methods now.machine s → K g s
   each_of K each = subst (λ (z : Session). (g : Setting) (s : State) → IsStateOf g z.methods z.machine s → K g s) is each
@@ -118,7 +118,7 @@ module _ (well : FittingStatesAreWellFormed) (agree : StagesAgree) (n : ℕ) (r 
     pub running_state : IsRunning n methods r.machine
     running_state = let (h, e) = with_state in (h, ap (λ (s : State). s.mode) e ∙ is_running (here well n r going_now kept).state.mode ((here well n r going_now kept).mode ∙ bytecode))
 
-    pub each_running : (K : Frame → Type 0) → EachRunning methods r.machine K → EachTop now K
+    pub each_running : (K : Frame → Type 0) → EachRunning methods r.machine K → EachShownTop now K
     each_running K each = each_with (λ s. IsSomeAnd (top_frame s.frames) K) (λ g s h.
         each g.program g.places g.chip g.memory s (shows well g methods r.machine s (subst (λ zs. IsStateOf g zs r.machine s) (sym same) h)) (is_running s.mode (each_mode well n r going_now kept agree g s h ∙ bytecode)))
 
@@ -135,13 +135,13 @@ module _ (well : FittingStatesAreWellFormed) (agree : StagesAgree) (n : ℕ) (r 
         let (p, mode) = is_raising (here well n r going_now kept).state.mode ((here well n r going_now kept).mode ∙ raise) in
         (h, p, ap (λ (s : State). s.mode) e ∙ mode)
 
-    pub each_raising : (K : Frame → Type 0) → EachRaising methods r.machine K → EachTop now K
+    pub each_raising : (K : Frame → Type 0) → EachRaising methods r.machine K → EachShownTop now K
     each_raising K each = each_with (λ s. IsSomeAnd (top_frame s.frames) K) (λ g s h.
         let (p, mode) = is_raising s.mode (each_mode well n r going_now kept agree g s h ∙ raise) in
         each g.program g.places g.chip g.memory s (shows well g methods r.machine s (subst (λ zs. IsStateOf g zs r.machine s) (sym same) h)) p mode)
 
     -- the top frame has no operands
-    pub none_left : EachTop now (λ f. sum_by value_words f.operands ≡ 0)
+    pub none_left : EachShownTop now (λ f. sum_by value_words f.operands ≡ 0)
     none_left = each_with (λ s. IsSomeAnd (top_frame s.frames) (λ f. sum_by value_words f.operands ≡ 0)) (λ g s h.
         let (p, mode) = is_raising s.mode (each_mode well n r going_now kept agree g s h ∙ raise) in
         let formed = well g.program g.types (limits g) h.is_setting.typed s h.stands.fits in

@@ -61,26 +61,26 @@ if_at o x K e h = subst (λ o. IfSome o K) e h
 
 -- ---- where a machine stands that stands for a state
 
-pub at_mode : (P : Program) (pl : Places) (m : machine.State) (s : State) (f : Frame) (b : Body) (mode : Ending) → s.mode ≡ mode → IsAt P pl m s f b s.mode → IsAt P pl m s f b mode
+pub at_mode : (P : Program) (pl : Places) (m : machine.MachineState) (s : State) (f : Frame) (b : Body) (mode : Ending) → s.mode ≡ mode → IsAt P pl m s f b s.mode → IsAt P pl m s f b mode
 at_mode P pl m s f b mode e h = subst (λ md. IsAt P pl m s f b md) e h
 
-pub code_of : (g : Setting) (m : machine.State) (s : State) → IsSetting g → (st : StandsFor g.program g.places g.chip g.memory m s) → IsCode st.body.code
+pub code_of : (g : Setting) (m : machine.MachineState) (s : State) → IsSetting g → (st : StandsFor g.program g.places g.chip g.memory m s) → IsCode st.body.code
 code_of g m s is st = if_at (body_of g.program st.top.method) st.body (λ b. IsCode b.code) st.is_body (is.says.codes st.top.method)
 
 -- about to run an instruction is not about to raise
-pub apart_at : RaiseApart → (g : Setting) (m : machine.State) (s : State) → IsSetting g → (st : StandsFor g.program g.places g.chip g.memory m s) → s.mode ≡ Running → m.mpc ≢ RAISE
+pub apart_at : RaiseApart → (g : Setting) (m : machine.MachineState) (s : State) → IsSetting g → (st : StandsFor g.program g.places g.chip g.memory m s) → s.mode ≡ Running → m.mpc ≢ RAISE
 apart_at apart g m s is st mode e =
     let at = at_mode g.program g.places m s st.top st.body Running mode st.at in
     let byte : m.opcode < 256 = omega (arith, at.opcode, (code_of g m s is st).bytes st.top.pc) in
     apart m.opcode byte (sym at.mpc ∙ e)
 
-pub running_here : RaiseApart → (g : Setting) (m : machine.State) (s : State) → m.halt ≡ halts.Running → m.mpc ≢ RAISE → (st : StandsFor g.program g.places g.chip g.memory m s) → (mode : Ending) → s.mode ≡ mode → s.mode ≡ Running
+pub running_here : RaiseApart → (g : Setting) (m : machine.MachineState) (s : State) → m.halt ≡ halts.Running → m.mpc ≢ RAISE → (st : StandsFor g.program g.places g.chip g.memory m s) → (mode : Ending) → s.mode ≡ mode → s.mode ≡ Running
 running_here apart g m s running other st Running e = e
 running_here apart g m s running other st (Raising p) e = absurd (other (at_mode g.program g.places m s st.top st.body (Raising p) e st.at).mpc)
 running_here apart g m s running other st Ended e = let clash : halts.Ended ≡ halts.Running = sym (at_mode g.program g.places m s st.top st.body Ended e st.at) ∙ running in absurd (cc)
 running_here apart g m s running other st (Uncaught c) e = let clash : halts.Uncaught ≡ halts.Running = sym (at_mode g.program g.places m s st.top st.body (Uncaught c) e st.at).halted ∙ running in absurd (cc)
 
-pub raising_here : RaiseApart → (g : Setting) (m : machine.State) (s : State) → IsSetting g → m.halt ≡ halts.Running → m.mpc ≡ RAISE → (st : StandsFor g.program g.places g.chip g.memory m s) → (mode : Ending) → s.mode ≡ mode
+pub raising_here : RaiseApart → (g : Setting) (m : machine.MachineState) (s : State) → IsSetting g → m.halt ≡ halts.Running → m.mpc ≡ RAISE → (st : StandsFor g.program g.places g.chip g.memory m s) → (mode : Ending) → s.mode ≡ mode
     → answer_of s.mode ≡ answers.Raise
 raising_here apart g m s is running at_raise st Running e = absurd (apart_at apart g m s is st e at_raise)
 raising_here apart g m s is running at_raise st (Raising p) e = ap answer_of e
@@ -146,7 +146,7 @@ body_is image P k b e h = only k (ap (λ (P : Program). body_of P k) (sym e) ∙
     only (suc k) h = absurd (cc)
 
 -- a program's instruction, where it comes of no class files, is one of a bare image
-origin_of : BareOpcodes → (g : Setting) (m : machine.State) (s : State) → (st : StandsFor g.program g.places g.chip g.memory m s) → IsWellFormed g.program (limits g) s → s.mode ≡ Running
+origin_of : BareOpcodes → (g : Setting) (m : machine.MachineState) (s : State) → (st : StandsFor g.program g.places g.chip g.memory m s) → IsWellFormed g.program (limits g) s → s.mode ≡ Running
     → (g.program.linked ≡ true) ⊎ IsBareProgram g.program → (g.program.linked ≡ true) ⊎ IsTrue (is_bare m.opcode)
 origin_of opcodes g m s st well mode (inl linked) = inl linked
 origin_of opcodes g m s st well mode (inr (image, grammar, is)) =
@@ -169,14 +169,14 @@ pub record AdvanceLaws : Type 0 where
   pub well : FittingStatesAreWellFormed
 
 -- an instruction that has a step has an opcode of a family
-built_at : AdvanceLaws → (g : Setting) (m : machine.State) (answer : Option ℕ) (s t : State) → IsSetting g → (h : IsStep g.program g.places g.chip g.memory m answer s t) → s.mode ≡ Running → is_built m.opcode ≡ true
+built_at : AdvanceLaws → (g : Setting) (m : machine.MachineState) (answer : Option ℕ) (s t : State) → IsSetting g → (h : IsStep g.program g.places g.chip g.memory m answer s t) → s.mode ≡ Running → is_built m.opcode ≡ true
 built_at laws g m answer s t is h mode =
     let r = laws.read g.program g.places g.chip g.memory m answer s t h mode in
     let f = h.stands.top in
     let code = code_of g m s is h.stands in
     opcode_is_built laws.rows laws.forms h.stands.body.code f.pc m.opcode r.instr (g.program.operand f.method f.pc) r.row (sym r.is.opcode) (omega (arith, r.is.opcode, code.bytes f.pc)) r.is.whole r.is.is_row
 
-comes_on : AdvanceLaws → (g : Setting) (m : machine.State) (answer : Option ℕ) (s t : State) → IsSetting g → Fits g.program g.types (limits g) s → IsStep g.program g.places g.chip g.memory m answer s t → (mode : Ending) → s.mode ≡ mode → IsGoing mode
+comes_on : AdvanceLaws → (g : Setting) (m : machine.MachineState) (answer : Option ℕ) (s t : State) → IsSetting g → Fits g.program g.types (limits g) s → IsStep g.program g.places g.chip g.memory m answer s t → (mode : Ending) → s.mode ≡ mode → IsGoing mode
     → ComesTo g.program g.places g.chip g.memory m s t
 comes_on laws g m answer s t is fits h Running e going =
     laws.simulates g.program g.places g.chip g.memory m answer s t h e (built_at laws g m answer s t is h e) (origin_of laws.opcodes g m s h.stands h.well_formed e is.origin)
@@ -213,12 +213,12 @@ some_or_none Takes answer s t taken h took = inr (append_cancel_left s.answers t
 some_or_none (Puts byte) answer s t taken h took = inl (append_cancel_left s.answers taken [] (sym took ∙ h.0 ∙ sym (append-nil s.answers)))
 
 -- none, or the one that the step is given
-pub taken_of : (g : Setting) (m : machine.State) (s : State) (answer : Option ℕ) → IsGoing s.mode → (n : NextStage g m s answer) → (n.comes.answers ≡ []) ⊎ (n.comes.answers ≡ answer ∷ [])
+pub taken_of : (g : Setting) (m : machine.MachineState) (s : State) (answer : Option ℕ) → IsGoing s.mode → (n : NextStage g m s answer) → (n.comes.answers ≡ []) ⊎ (n.comes.answers ≡ answer ∷ [])
 taken_of g m s answer going n =
     let sort = step_sort g.program (limits g) s going in
     some_or_none sort.sort answer s n.next n.comes.answers (sort.obeys answer n.next n.is_next) n.comes.took
 
-pub stage_runs : (m : machine.State) → IsAtStep m → m.halt ≡ halts.Running
+pub stage_runs : (m : machine.MachineState) → IsAtStep m → m.halt ≡ halts.Running
 stage_runs m here = by_mode here.state.mode refl here.going
   where
     by_mode : (mode : Ending) → here.state.mode ≡ mode → IsGoing mode → m.halt ≡ halts.Running

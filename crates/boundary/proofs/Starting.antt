@@ -36,11 +36,11 @@ boot_runs P s h =
     some_mode : (u t : State) → ◌≡◌ {A = Option State} (Some u) (Some t) → u.mode ≡ Running → t.mode ≡ Running
     some_mode u t h e = let same : u ≡ t = cc in subst (λ (z : State). z.mode ≡ Running) same e
 
-pub begins_at : (g : Setting) (reset m : machine.State) → m ≡ reset → Begins g reset → Begins g m
+pub begins_at : (g : Setting) (reset m : machine.MachineState) → m ≡ reset → Begins g reset → Begins g m
 begins_at g reset m is h = subst (Begins g) (sym is) h
 
 -- a run that begins is in step
-begun_step : (methods : List CodedMethod) (g : Setting) (m : machine.State) → IsSetting g → AreMethods g.program g.places methods → Begins g m → HasWaits m
+begun_step : (methods : List CodedMethod) (g : Setting) (m : machine.MachineState) → IsSetting g → AreMethods g.program g.places methods → Begins g m → HasWaits m
     → IsInStep g.chip (record { machine = m; methods = methods; mode = Ok answers.Bytecode })
 begun_step methods g m is are begins waits = record {
   setting = g;
@@ -53,10 +53,10 @@ begun_step methods g m is are begins waits = record {
   waits = waits;
 }
 
-pub step_begins : BareImagesArePrograms → (n : ℕ) (image : BareContent) (config : Config) (methods : List CodedMethod) (m : machine.State) → IsBareContent image → AreMethods (program_of image) bare_places methods
+pub step_begins : BareImagesArePrograms → (n : ℕ) (image : BareContent) (config : Config) (methods : List CodedMethod) (m : machine.MachineState) → IsBareContent image → AreMethods (program_of image) bare_places methods
     → m ≡ bare_reset n image config → Begins (bare_setting image n config.memory) m → IsInStep n (record { machine = m; methods = methods; mode = Ok answers.Bytecode })
 step_begins programs n image config methods m grammar are is begins =
-    let W : machine.State → Type 0 = λ z. HasWaits z in
+    let W : machine.MachineState → Type 0 = λ z. HasWaits z in
     begun_step methods (bare_setting image n config.memory) m (programs image n config.memory grammar) are begins (subst W (sym is) (record { read = config.most_read; write = config.most_write }))
 
 -- ---- linked programs
@@ -67,15 +67,15 @@ size_of n words methods config linked = subst IsSize linked.chip linked.held.siz
 pub can_start : LinkedRunsBegin → (n : ℕ) (words : List ℕ) (methods : List CodedMethod) (config : Config) → IsHeldImage n words methods config → CanStart words config
 can_start begin n words methods config linked = subst (λ ws. CanStart ws config) (sym linked.words_are) (begin linked.setting config linked.held).0
 
-pub linked_begins : LinkedRunsBegin → (n : ℕ) (words : List ℕ) (config : Config) (m : machine.State) → m ≡ linked_reset n words config → BeginsEach n words config m
+pub linked_begins : LinkedRunsBegin → (n : ℕ) (words : List ℕ) (config : Config) (m : machine.MachineState) → m ≡ linked_reset n words config → BeginsEach n words config m
 linked_begins begin n words config m is g held chip words_are =
     let M : ℕ → List ℕ → Type 0 = λ k ws. Begins g (linked_reset k ws config) in
-    subst (λ (z : machine.State). Begins g z) (sym is) (subst (λ (ws : List ℕ). M n ws) (sym words_are) (subst (λ (k : ℕ). M k (image_of g.program g.places)) chip (begin g config held).1))
+    subst (λ (z : machine.MachineState). Begins g z) (sym is) (subst (λ (ws : List ℕ). M n ws) (sym words_are) (subst (λ (k : ℕ). M k (image_of g.program g.places)) chip (begin g config held).1))
 
-pub linked_step : LinkedRunsBegin → (n : ℕ) (words : List ℕ) (methods : List CodedMethod) (config : Config) (m : machine.State) → IsHeldImage n words methods config → m ≡ linked_reset n words config
+pub linked_step : LinkedRunsBegin → (n : ℕ) (words : List ℕ) (methods : List CodedMethod) (config : Config) (m : machine.MachineState) → IsHeldImage n words methods config → m ≡ linked_reset n words config
     → IsInStep n (record { machine = m; methods = methods; mode = Ok answers.Bytecode })
 linked_step begin n words methods config m linked is =
-    let W : machine.State → Type 0 = λ z. HasWaits z in
+    let W : machine.MachineState → Type 0 = λ z. HasWaits z in
     let step = begun_step methods linked.setting m linked.held.is_setting linked.methods_are (linked_begins begin n words config m is linked.setting linked.held linked.chip linked.words_are)
     (subst W (sym is) (record { read = config.most_read; write = config.most_write })) in
     subst (λ k. IsInStep k (record { machine = m; methods = methods; mode = Ok answers.Bytecode })) linked.chip step

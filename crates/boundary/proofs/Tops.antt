@@ -62,12 +62,12 @@ small_by None k j n lt lt' = (lt, lt')
 small_by (Some f) k j n lt lt' = (lt, lt')
 
 -- the counts that are read of a machine
-pub small_seen : (r : Session) (now : machine.State) → now ≡ r.machine → (k j : ℕ) → k ≡ now.clock → j ≡ now.misses → k < 2 ^ 64 → j < 2 ^ 64 → SeesSmallCounts r
+pub small_seen : (r : Session) (now : machine.MachineState) → now ≡ r.machine → (k j : ℕ) → k ≡ now.clock → j ≡ now.misses → k < 2 ^ 64 → j < 2 ^ 64 → SeesSmallCounts r
 small_seen r now is k j clock misses few few' = λ b b_is.
     let same : now ≡ b.machine = is ∙ sym b_is in
     small_by (top_frame b.state.frames) b.machine.clock b.machine.misses (length b.state.frames)
-    (let P : ℕ → Type 0 = λ n. n < 2 ^ 64 in subst P (clock ∙ ap (λ (m : machine.State). m.clock) same) few)
-    (let P : ℕ → Type 0 = λ n. n < 2 ^ 64 in subst P (misses ∙ ap (λ (m : machine.State). m.misses) same) few')
+    (let P : ℕ → Type 0 = λ n. n < 2 ^ 64 in subst P (clock ∙ ap (λ (m : machine.MachineState). m.clock) same) few)
+    (let P : ℕ → Type 0 = λ n. n < 2 ^ 64 in subst P (misses ∙ ap (λ (m : machine.MachineState). m.misses) same) few')
 
 -- with as many frames and the same method on top
 later_by : (o o' : Option Frame) (m k k' j j' n n' pc : ℕ) → IsSomeAnd o (λ f. f.method ≡ m) → IsSomeAnd o' (λ f. f.method ≡ m) → IsSomeAnd o' (λ f. f.pc ≡ pc) → n ≡ n'
@@ -85,8 +85,8 @@ later_here a b top k j pc clock misses is is' at =
     ∙ later_by (top_frame a.state.frames) (top_frame b.state.frames) top.method a.machine.clock b.machine.clock a.machine.misses b.machine.misses (length a.state.frames) (length b.state.frames) pc is.method is'.method at (is.frames ∙ sym is'.frames)
 
 -- of the machine by another name
-pub here_is : (b : Stage) (now : machine.State) → b.machine ≡ now → here_of (record { machine = now; state = b.state }) ≡ here_of b
-here_is b now e = ap (λ (m : machine.State). let c : Stage = record { machine = m; state = b.state } in here_of c) (sym e)
+pub here_is : (b : Stage) (now : machine.MachineState) → b.machine ≡ now → here_of (record { machine = now; state = b.state }) ≡ here_of b
+here_is b now e = ap (λ (m : machine.MachineState). let c : Stage = record { machine = m; state = b.state } in here_of c) (sym e)
 
-pub top_is_of : (b : Stage) (now : machine.State) (top : TopFrame) → b.machine ≡ now → IsTopOf b top → IsTopOf (record { machine = now; state = b.state }) top
-top_is_of b now top e is = record { locals = ap (λ (m : machine.State). m.vp) (sym e) ∙ is.locals; method = is.method; frames = is.frames }
+pub top_is_of : (b : Stage) (now : machine.MachineState) (top : TopFrame) → b.machine ≡ now → IsTopOf b top → IsTopOf (record { machine = now; state = b.state }) top
+top_is_of b now top e is = record { locals = ap (λ (m : machine.MachineState). m.vp) (sym e) ∙ is.locals; method = is.method; frames = is.frames }

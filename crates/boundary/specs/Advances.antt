@@ -21,7 +21,7 @@ use Rattle.boundary.specs.Setting.{Setting, limits, IsSetting, Stands}
 
 -- From the state, for which the machine stood, both came to the next one. On the way the device gave just the answers that the step takes, was given just the
 -- bytes that it puts out, and was handed each state of the machine from which a cycle was done.
-pub record Advances (g : Setting) (s : State) (old new : machine.State) (told told' : Told) : Type 0 where
+pub record Advances (g : Setting) (s : State) (old new : machine.MachineState) (told told' : Told) : Type 0 where
   pub answer : Option ℕ
   pub byte : IsInput answer
   pub next : State
@@ -33,8 +33,8 @@ pub record Advances (g : Setting) (s : State) (old new : machine.State) (told to
   pub ran : RanCycles comes.cycles old new told told' comes.answers
 
 -- and how the next state goes on is the answer
-abbrev pub Reaches : (g : Setting) → State → (old new : machine.State) → (told told' : Told) → Boundary → Type 0
-Reaches g s old new told told' answer = (a : Advances g s old new told told') × (answer_of a.next.mode ≡ answer)
+abbrev pub ReachesBoundary : (g : Setting) → State → (old new : machine.MachineState) → (told told' : Told) → Boundary → Type 0
+ReachesBoundary g s old new told told' answer = (a : Advances g s old new told told') × (answer_of a.next.mode ≡ answer)
 
 -- ---- where a call on the device failed
 
@@ -54,7 +54,7 @@ pub record IsPart (g : Setting) (s : State) (answers : List (Option ℕ)) (outpu
   pub put : next.output ≡ s.output ++ (output ++ other_output)
 
 -- The machine is where it was, about to ask for the answer that the step takes, and nothing was answered or put out before. It still stands for the state.
-pub record FailsToRead (g : Setting) (s : State) (old new : machine.State) (told told' : Told) : Type 0 where
+pub record FailsToRead (g : Setting) (s : State) (old new : machine.MachineState) (told told' : Told) : Type 0 where
   pub broke : Broke old new told told' faults.Input
   pub answers : broke.answers ≡ []
   pub output : output_during broke.cycles (begun old []) ≡ []
@@ -63,7 +63,7 @@ pub record FailsToRead (g : Setting) (s : State) (old new : machine.State) (told
   pub stands : Stands g new s
 
 -- The machine is where it was, about to put out the byte that the step puts out, and nothing was answered or put out before. It still stands for the state.
-pub record FailsToWrite (g : Setting) (s : State) (old new : machine.State) (told told' : Told) : Type 0 where
+pub record FailsToWrite (g : Setting) (s : State) (old new : machine.MachineState) (told told' : Told) : Type 0 where
   pub broke : Broke old new told told' faults.Output
   pub answers : broke.answers ≡ []
   pub output : output_during broke.cycles (begun old []) ≡ []
@@ -72,28 +72,28 @@ pub record FailsToWrite (g : Setting) (s : State) (old new : machine.State) (tol
   pub stands : Stands g new s
 
 -- The machine stands where its state was handed to the device.
-pub record FailsToShow (g : Setting) (s : State) (old new : machine.State) (told told' : Told) : Type 0 where
+pub record FailsToShow (g : Setting) (s : State) (old new : machine.MachineState) (told told' : Told) : Type 0 where
   pub broke : Broke old new told told' faults.Seen
   pub part : IsPart g s broke.answers (output_during broke.cycles (begun old broke.answers))
 
 -- by the call
-abbrev pub Fails : Setting → DeviceFault → State → (old new : machine.State) → (told told' : Told) → Type 0
-Fails g faults.Input s old new told told' = FailsToRead g s old new told told'
-Fails g faults.Output s old new told told' = FailsToWrite g s old new told told'
-Fails g faults.Seen s old new told told' = FailsToShow g s old new told told'
+abbrev pub FailsOnDevice : Setting → DeviceFault → State → (old new : machine.MachineState) → (told told' : Told) → Type 0
+FailsOnDevice g faults.Input s old new told told' = FailsToRead g s old new told told'
+FailsOnDevice g faults.Output s old new told told' = FailsToWrite g s old new told told'
+FailsOnDevice g faults.Seen s old new told told' = FailsToShow g s old new told told'
 
 -- ---- by the answer
 
-abbrev pub StepsTo : (g : Setting) → State → (old new : machine.State) → (told told' : Told) → Result Boundary DeviceFault → Type 0
-StepsTo g s old new told told' (Ok answer) = Reaches g s old new told told' answer
-StepsTo g s old new told told' (Err fault) = Fails g fault s old new told told'
+abbrev pub StepsTo : (g : Setting) → State → (old new : machine.MachineState) → (told told' : Told) → Result Boundary DeviceFault → Type 0
+StepsTo g s old new told told' (Ok answer) = ReachesBoundary g s old new told told' answer
+StepsTo g s old new told told' (Err fault) = FailsOnDevice g fault s old new told told'
 
 -- A step that goes on takes some cycles.
-abbrev pub PassesTime : (old new : machine.State) → Result Boundary DeviceFault → Type 0
+abbrev pub PassesTime : (old new : machine.MachineState) → Result Boundary DeviceFault → Type 0
 PassesTime old new (Ok answers.Bytecode) = old.clock < new.clock
 PassesTime old new (Ok answers.Raise) = old.clock < new.clock
 PassesTime old new answer = Unit {0}
 
 -- so it is for each program and state for which the machine stood
-abbrev pub StepsAll : (old new : machine.State) → (told told' : Told) → Result Boundary DeviceFault → Type 0
+abbrev pub StepsAll : (old new : machine.MachineState) → (told told' : Told) → Result Boundary DeviceFault → Type 0
 StepsAll old new told told' answer = (g : Setting) (s : State) → IsSetting g → Stands g old s → StepsTo g s old new told told' answer

@@ -32,8 +32,8 @@ is_raise (Ok answers.Raise) = true
 is_raise mode = false
 
 -- a run whose frames can be asked for
-abbrev pub IsGoing : Result Boundary DeviceFault → Type 0
-IsGoing mode = (mode ≡ Ok answers.Bytecode) ⊎ (mode ≡ Ok answers.Raise)
+abbrev pub HasFrames : Result Boundary DeviceFault → Type 0
+HasFrames mode = (mode ≡ Ok answers.Bytecode) ⊎ (mode ≡ Ok answers.Raise)
 
 -- of a machine that has halted: over an object of a class, or because the program returned
 abbrev pub answer_at_end : (class : Option ℕ) → Boundary

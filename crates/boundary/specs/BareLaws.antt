@@ -26,5 +26,6 @@ pub record IsBareStep (P : Program) (s t : State) : Type 0 where
 
 -- so do all steps of bare images
 abbrev pub BareImagesStep : Type 0
-BareImagesStep = (image : BareContent) (chip memory : ℕ) (m : machine.State) (answer : Option ℕ) (s t : State) → let g = bare_setting image chip memory in
+BareImagesStep = (image : BareContent) (chip memory : ℕ) (m : machine.MachineState) (answer : Option ℕ) (s t : State)
+    → let g = bare_setting image chip memory in
     IsBareContent image → Stands g m s → s.mode ≡ Running → IsInput answer → step g.program (limits g) answer s ≡ Some t → IsBareStep g.program s t

@@ -39,5 +39,5 @@ pub record IsBareState (image : BareContent) (s : State) : Type 0 where
 pub record HaveBareStates : Type 0 where
   pub fit : (image : BareContent) (chip memory : ℕ) (s : State) → let g = bare_setting image chip memory in
       IsBareContent image → Fits g.program g.types (limits g) s → ((c : ℕ) → s.mode ≡ Uncaught c → ⊥) → IsBareState image s
-  pub next : (image : BareContent) (chip memory : ℕ) (m : machine.State) (answer : Option ℕ) (s t : State) → let g = bare_setting image chip memory in
+  pub next : (image : BareContent) (chip memory : ℕ) (m : machine.MachineState) (answer : Option ℕ) (s t : State) → let g = bare_setting image chip memory in
       IsBareContent image → Stands g m s → s.mode ≡ Running → IsInput answer → step g.program (limits g) answer s ≡ Some t → IsBareState image t

@@ -40,19 +40,19 @@ stages_between g limit a zero b goes = b ∷ []
 stages_between g limit a (suc n) b (mid, goes, going, below, follows) = stages_between g limit a n mid goes ++ b ∷ []
 
 -- those of a run, up to its last one, however it ends
-abbrev pub stages_of : (g : Setting) → (limit : ℕ) → (a : Stage) → (now : machine.State) → (told told' : Told) → (end : Result RunEnd DeviceFault)
+abbrev pub stages_of : (g : Setting) → (limit : ℕ) → (a : Stage) → (now : machine.MachineState) → (told told' : Told) → (end : Result RunEnd DeviceFault)
     → RunsTo g limit a now told told' end → List Stage
 stages_of g limit a now told told' (Ok end) r = stages_between g limit a r.run.steps r.last r.run.stages
 stages_of g limit a now told told' (Err fault) r = stages_between g limit a r.run.steps r.last r.run.stages
 
 -- all that is seen of a run
-abbrev pub seen_of : (g : Setting) → (limit : ℕ) → (a : Stage) → (now : machine.State) → (told told' : Told) → (end : Result RunEnd DeviceFault)
+abbrev pub seen_of : (g : Setting) → (limit : ℕ) → (a : Stage) → (now : machine.MachineState) → (told told' : Told) → (end : Result RunEnd DeviceFault)
     → RunsTo g limit a now told told' end → List Here
 seen_of g limit a now told told' end runs = flat_map seen_at (stages_of g limit a now told told' end runs)
 
 -- The run ends so, and where the program's methods are those of the machine, the follower has come over all that was seen from one to the other, whose
 -- counts have 64 bits.
-pub record FollowsTo {F : Type 0} (after : F → Here → F) (g : Setting) (limit : ℕ) (old : Session) (s : State) (now : machine.State) (told told' : Told)
+pub record FollowsTo {F : Type 0} (after : F → Here → F) (g : Setting) (limit : ℕ) (old : Session) (s : State) (now : machine.MachineState) (told told' : Told)
     (follower follower' : F) (end : Result RunEnd DeviceFault) : Type 0 where
   pub runs : RunsTo g limit (record { machine = old.machine; state = s }) now told told' end
   pub follower_is : AreMethods g.program g.places old.methods
@@ -61,7 +61,7 @@ pub record FollowsTo {F : Type 0} (after : F → Here → F) (g : Setting) (limi
       → All HasSmallCounts (seen_of g limit (record { machine = old.machine; state = s }) now told told' end runs)
 
 -- so it is from each state of a program for which the machine stood
-unfoldable pub FollowsAll : {F : Type 0} → (after : F → Here → F) → (limit : ℕ) → (old : Session) → (now : machine.State) → (told told' : Told)
+unfoldable pub FollowsAll : {F : Type 0} → (after : F → Here → F) → (limit : ℕ) → (old : Session) → (now : machine.MachineState) → (told told' : Told)
     → (follower follower' : F) → Result RunEnd DeviceFault → Type 0
 FollowsAll after limit old now told told' follower follower' end = (g : Setting) (s : State) → IsSetting g → Stands g old.machine s
     → FollowsTo after g limit old s now told told' follower follower' end
@@ -83,6 +83,6 @@ pub record IsRow (g : Setting) (a : Stage) (stages : List Stage) : Type 0 where
 -- the boundaries of which what is seen of a run is seen are in a row, from the first one on
 abbrev pub RunsAreInARow : Type 0
 RunsAreInARow =
-    (g : Setting) (limit : ℕ) (a : Stage) (now : machine.State) (told told' : Told) (end : Result RunEnd DeviceFault)
+    (g : Setting) (limit : ℕ) (a : Stage) (now : machine.MachineState) (told told' : Told) (end : Result RunEnd DeviceFault)
     (runs : RunsTo g limit a now told told' end)
     → IsRow g a (stages_of g limit a now told told' end runs)

@@ -33,7 +33,7 @@ pub record IsHeldImage (n : ℕ) (words : List ℕ) (methods : List CodedMethod)
   pub methods_are : AreMethods setting.program setting.places methods
 
 -- so it begins with each such program
-abbrev pub BeginsEach : (n : ℕ) → (words : List ℕ) → Config → machine.State → Type 0
+abbrev pub BeginsEach : (n : ℕ) → (words : List ℕ) → Config → machine.MachineState → Type 0
 BeginsEach n words config m = (g : Setting) → IsHeld g config → g.chip ≡ n → words ≡ image_of g.program g.places → Begins g m
 
 -- The machine can begin with the words of its image, and at reset over them it stands for the boot state.

@@ -15,7 +15,7 @@ use Rattle.boundary.specs.declared.runs.RunEnd.{RunEnd}
 use Rattle.boundary.specs.declared.runs.RunEnd.TheVariants as ends
 use Rattle.boundary.specs.Setting.{Setting, limits, IsSetting, Stands}
 use Rattle.boundary.specs.Activations.{Stage, Follows}
-use Rattle.boundary.specs.Advances.{Fails}
+use Rattle.boundary.specs.Advances.{FailsOnDevice}
 
 -- the input that gave these answers: question k got answer k
 abbrev pub input_of : (answers : List (Option ℕ)) → ℕ → Option ℕ
@@ -41,15 +41,15 @@ pub record IsRun (g : Setting) (limit : ℕ) (a b : Stage) (told told' : Told) :
   pub put : b.state.output ≡ a.state.output ++ output_during cycles (begun a.machine answers)
 
 -- the run came to a machine that stands for a state of which this holds
-pub record RunsOn (g : Setting) (limit : ℕ) (a : Stage) (now : machine.State) (told told' : Told) (K : State → Type 0) : Type 0 where
+pub record RunsOn (g : Setting) (limit : ℕ) (a : Stage) (now : machine.MachineState) (told told' : Told) (K : State → Type 0) : Type 0 where
   pub last : Stage
   pub now_is : last.machine ≡ now
   pub run : IsRun g limit a last told told'
   pub holds : K last.state
 
 -- the run came to a boundary from which a step was begun, on which a call on the device failed
-pub record Breaks (g : Setting) (limit : ℕ) (a : Stage) (now : machine.State) (told told' : Told)
-    (K : State → (old new : machine.State) → (before after : Told) → Type 0) : Type 0 where
+pub record Breaks (g : Setting) (limit : ℕ) (a : Stage) (now : machine.MachineState) (told told' : Told)
+    (K : State → (old new : machine.MachineState) → (before after : Told) → Type 0) : Type 0 where
   pub last : Stage
   pub before : Told
   pub run : IsRun g limit a last told before
@@ -58,17 +58,17 @@ pub record Breaks (g : Setting) (limit : ℕ) (a : Stage) (now : machine.State) 
   pub fails : K last.state last.machine now before told'
 
 -- of the state and the machine to which a run has come that ends so
-abbrev pub IsEnd : (limit : ℕ) → (now : machine.State) → RunEnd → State → Type 0
+abbrev pub IsEnd : (limit : ℕ) → (now : machine.MachineState) → RunEnd → State → Type 0
 IsEnd limit now ends.Ended s = s.mode ≡ modes.Ended
 IsEnd limit now (ends.Uncaught c) s = s.mode ≡ modes.Uncaught c
 IsEnd limit now ends.Spent s = IsGoing s.mode × (limit ≤ now.clock)
 
 -- how the run ends, or which call on the device failed
-abbrev pub RunsTo : (g : Setting) → (limit : ℕ) → (a : Stage) → (now : machine.State) → (told told' : Told) → Result RunEnd DeviceFault → Type 0
+abbrev pub RunsTo : (g : Setting) → (limit : ℕ) → (a : Stage) → (now : machine.MachineState) → (told told' : Told) → Result RunEnd DeviceFault → Type 0
 RunsTo g limit a now told told' (Ok end) = RunsOn g limit a now told told' (IsEnd limit now end)
-RunsTo g limit a now told told' (Err fault) = Breaks g limit a now told told' (Fails g fault)
+RunsTo g limit a now told told' (Err fault) = Breaks g limit a now told told' (FailsOnDevice g fault)
 
 -- so it is from each state of a program for which the machine stood
-unfoldable pub RunsAll : (limit : ℕ) → (old now : machine.State) → (told told' : Told) → Result RunEnd DeviceFault → Type 0
+unfoldable pub RunsAll : (limit : ℕ) → (old now : machine.MachineState) → (told told' : Told) → Result RunEnd DeviceFault → Type 0
 RunsAll limit old now told told' end = (g : Setting) (s : State) → IsSetting g → Stands g old s
     → RunsTo g limit (record { machine = old; state = s }) now told told' end

@@ -18,18 +18,18 @@ use Rattle.boundary.specs.Setting.{Setting, IsSetting, Stands}
 
 -- The machine, the methods with code of the program that it runs, and how the state goes on for which it stands, or which call on the device failed.
 pub record Session : Type 0 where
-  pub machine : machine.State
+  pub machine : machine.MachineState
   pub methods : List CodedMethod
   pub mode : Result Boundary DeviceFault
 
 -- the machine stands for the state of a program whose methods with code are these
-pub record IsStateOf (g : Setting) (methods : List CodedMethod) (m : machine.State) (s : State) : Type 0 where
+pub record IsStateOf (g : Setting) (methods : List CodedMethod) (m : machine.MachineState) (s : State) : Type 0 where
   pub is_setting : IsSetting g
   pub methods_are : AreMethods g.program g.places methods
   pub stands : Stands g m s
 
 -- the waits of the machine's memory are permitted ones
-pub record HasWaits (m : machine.State) : Type 0 where
+pub record HasWaits (m : machine.MachineState) : Type 0 where
   pub read : m.port.read ≤ MAX_WAIT
   pub write : m.port.write ≤ MAX_WAIT
 
@@ -54,7 +54,7 @@ abbrev pub goes : Session → Bool
 goes r = goes_on r.mode
 
 -- the machine is about to run an instruction of some program, or to look for a handler there
-pub record IsAtStep (m : machine.State) : Type 0 where
+pub record IsAtStep (m : machine.MachineState) : Type 0 where
   pub setting : Setting
   pub is_setting : IsSetting setting
   pub state : State
@@ -63,7 +63,7 @@ pub record IsAtStep (m : machine.State) : Type 0 where
   pub waits : HasWaits m
 
 -- the machine has halted over a state of some program
-pub record HasEnded (m : machine.State) : Type 0 where
+pub record HasEnded (m : machine.MachineState) : Type 0 where
   pub setting : Setting
   pub is_setting : IsSetting setting
   pub state : State
@@ -71,23 +71,23 @@ pub record HasEnded (m : machine.State) : Type 0 where
   pub halted : m.halt ≢ halts.Running
 
 -- each state of a program for which the machine stands goes on so
-abbrev pub AllGoOnSo : machine.State → Boundary → Type 0
+abbrev pub AllGoOnSo : machine.MachineState → Boundary → Type 0
 AllGoOnSo m answer = (g : Setting) (s : State) → IsSetting g → Stands g m s → answer_of s.mode ≡ answer
 
 -- each state of a program for which the machine stands has ended so
-abbrev pub EndsWith : machine.State → (class : Option ℕ) → Type 0
+abbrev pub EndsWith : machine.MachineState → (class : Option ℕ) → Type 0
 EndsWith m class = (g : Setting) (s : State) → IsSetting g → Stands g m s → answer_of s.mode ≡ answer_at_end class
 
 -- the machine stands for the first state of the program
-pub record Begins (g : Setting) (m : machine.State) : Type 0 where
+pub record Begins (g : Setting) (m : machine.MachineState) : Type 0 where
   pub boot : State
   pub is_boot : boot_state g.program ≡ Some boot
   pub stands : Stands g m boot
 
 -- so it is of each state for which it stands of a program with these methods
-abbrev pub EachState : Session → (State → Type 0) → Type 0
-EachState r K = (g : Setting) (s : State) → IsStateOf g r.methods r.machine s → K s
+abbrev pub EachShownState : Session → (State → Type 0) → Type 0
+EachShownState r K = (g : Setting) (s : State) → IsStateOf g r.methods r.machine s → K s
 
 -- and of its top frame
-abbrev pub EachTop : Session → (Frame → Type 0) → Type 0
-EachTop r K = EachState r (λ s. IsSomeAnd (top_frame s.frames) K)
+abbrev pub EachShownTop : Session → (Frame → Type 0) → Type 0
+EachShownTop r K = EachShownState r (λ s. IsSomeAnd (top_frame s.frames) K)

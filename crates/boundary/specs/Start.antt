@@ -42,5 +42,5 @@ BootTakesSixWords = (files : List ClassFile) (main : List ℕ)
 
 -- a machine that stands for a state in which an object of a class wasn't caught: the class is one of the program's
 abbrev pub UncaughtClassesAreThere : Type 0
-UncaughtClassesAreThere = (cs : List ClassFile) (pl : Places) (chip size : ℕ) (m : machine.State) (s : State) (class : ℕ)
+UncaughtClassesAreThere = (cs : List ClassFile) (pl : Places) (chip size : ℕ) (m : machine.MachineState) (s : State) (class : ℕ)
     → StandsFor (resolved cs) pl chip size m s → s.mode ≡ Uncaught class → class < length cs

@@ -21,7 +21,7 @@ use Rattle.boundary.specs.Opcodes.{next_opcode}
 use Rattle.boundary.specs.Setting.{Setting}
 use Rattle.boundary.specs.Session.{Session, IsStateOf}
 use Rattle.boundary.specs.Activations.{Stage, Follows}
-use Rattle.boundary.specs.Advances.{Reaches, FailsToRead, FailsToWrite, FailsToShow}
+use Rattle.boundary.specs.Advances.{ReachesBoundary, FailsToRead, FailsToWrite, FailsToShow}
 use Rattle.boundary.specs.Runs.{Goes, IsRun, IsEnd}
 
 -- ---- the text
@@ -69,7 +69,7 @@ pub record IsTraced (cycles : Bool) (names : List (List ℕ)) (g : Setting) (lim
   pub text : Grew told.noted told'.noted (run_text cycles names g limit a run.steps b run.stages)
 
 -- the traced run came to a machine that stands for a state of which this holds
-pub record TracesOn (cycles : Bool) (names : List (List ℕ)) (g : Setting) (limit : ℕ) (a : Stage) (now : machine.State) (told told' : Told)
+pub record TracesOn (cycles : Bool) (names : List (List ℕ)) (g : Setting) (limit : ℕ) (a : Stage) (now : machine.MachineState) (told told' : Told)
     (K : State → Type 0) : Type 0 where
   pub last : Stage
   pub now_is : last.machine ≡ now
@@ -79,32 +79,33 @@ pub record TracesOn (cycles : Bool) (names : List (List ℕ)) (g : Setting) (lim
 -- ---- one step more
 
 -- the line of the boundary was put, and from there this holds of the state and the machine
-pub record AfterLine (names : List (List ℕ)) (g : Setting) (a : Stage) (now : machine.State) (told told' : Told)
-    (K : State → (old new : machine.State) → (before after : Told) → Type 0) : Type 0 where
+pub record AfterLine (names : List (List ℕ)) (g : Setting) (a : Stage) (now : machine.MachineState) (told told' : Told)
+    (K : State → (old new : machine.MachineState) → (before after : Told) → Type 0) : Type 0 where
   pub begun : Told
   pub line : LineIsPut told begun (stage_line names g a)
   pub holds : K a.state a.machine now begun told'
 
 -- A line failed: that of the boundary, with the machine there, or behind it that of a byte.
-pub data OutputFails (names : List (List ℕ)) (g : Setting) (a : Stage) (now : machine.State) (told told' : Told) : Type 0 where
+pub data OutputFails (names : List (List ℕ)) (g : Setting) (a : Stage) (now : machine.MachineState) (told told' : Told) : Type 0 where
   AtBoundary : now ≡ a.machine → LineFails told told' (stage_line names g a) → OutputFails names g a now told told'
   AtWrite : AfterLine names g a now told told' (FailsToWrite g) → OutputFails names g a now told told'
 
 -- where a step from a comes to, by the answer at the next boundary; a line of a cycle that fails is a state that could not be handed over
-abbrev pub StepTraces : (names : List (List ℕ)) → (g : Setting) → (a : Stage) → (now : machine.State) → (told told' : Told) → Result Boundary DeviceFault
+abbrev pub StepTraces : (names : List (List ℕ)) → (g : Setting) → (a : Stage) → (now : machine.MachineState) → (told told' : Told) → Result Boundary DeviceFault
     → Type 0
-StepTraces names g a now told told' (Ok answer) = AfterLine names g a now told told' (λ s old new before after. Reaches g s old new before after answer)
+StepTraces names g a now told told' (Ok answer) = AfterLine names g a now told told' (λ s old new before after. ReachesBoundary g s old new before after answer)
 StepTraces names g a now told told' (Err faults.Input) = AfterLine names g a now told told' (FailsToRead g)
 StepTraces names g a now told told' (Err faults.Output) = OutputFails names g a now told told'
 StepTraces names g a now told told' (Err faults.Seen) = AfterLine names g a now told told' (FailsToShow g)
 
 -- so it is from each state for which the machine stood, of a program with these methods
-unfoldable pub StepTracesAll : (names : List (List ℕ)) → (old : Session) → (now : machine.State) → (told told' : Told) → Result Boundary DeviceFault → Type 0
+unfoldable pub StepTracesAll : (names : List (List ℕ)) → (old : Session) → (now : machine.MachineState) → (told told' : Told) → Result Boundary DeviceFault
+    → Type 0
 StepTracesAll names old now told told' answer = (g : Setting) (s : State) → IsStateOf g old.methods old.machine s
     → StepTraces names g (record { machine = old.machine; state = s }) now told told' answer
 
 -- the traced run came to a boundary from which a step was begun, where a call on the device failed
-pub record TraceBreaks (cycles : Bool) (names : List (List ℕ)) (g : Setting) (limit : ℕ) (a : Stage) (now : machine.State) (told told' : Told)
+pub record TraceBreaks (cycles : Bool) (names : List (List ℕ)) (g : Setting) (limit : ℕ) (a : Stage) (now : machine.MachineState) (told told' : Told)
     (fault : DeviceFault) : Type 0 where
   pub last : Stage
   pub before : Told
@@ -115,13 +116,13 @@ pub record TraceBreaks (cycles : Bool) (names : List (List ℕ)) (g : Setting) (
 
 -- ---- how the traced run ends
 
-abbrev pub TracesTo : (cycles : Bool) → (names : List (List ℕ)) → (g : Setting) → (limit : ℕ) → (a : Stage) → (now : machine.State) → (told told' : Told)
+abbrev pub TracesTo : (cycles : Bool) → (names : List (List ℕ)) → (g : Setting) → (limit : ℕ) → (a : Stage) → (now : machine.MachineState) → (told told' : Told)
     → Result RunEnd DeviceFault → Type 0
 TracesTo cycles names g limit a now told told' (Ok end) = TracesOn cycles names g limit a now told told' (IsEnd limit now end)
 TracesTo cycles names g limit a now told told' (Err fault) = TraceBreaks cycles names g limit a now told told' fault
 
 -- so it is from each state for which the machine stood, of a program with these methods
-unfoldable pub TracesAll : (cycles : Bool) → (names : List (List ℕ)) → (limit : ℕ) → (old : Session) → (now : machine.State) → (told told' : Told)
+unfoldable pub TracesAll : (cycles : Bool) → (names : List (List ℕ)) → (limit : ℕ) → (old : Session) → (now : machine.MachineState) → (told told' : Told)
     → Result RunEnd DeviceFault → Type 0
 TracesAll cycles names limit old now told told' end = (g : Setting) (s : State) → IsStateOf g old.methods old.machine s
     → TracesTo cycles names g limit (record { machine = old.machine; state = s }) now told told' end

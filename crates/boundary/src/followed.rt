@@ -1,7 +1,7 @@
 //! A whole run of the machine, with a follower that is handed what is seen at each boundary.
 ghost use Rattle.std.specs.Prelude.{◌≡◌, ◌≢◌, ◌<◌, ◌^◌, IsOk};
 ghost use Rattle.bytecode_model.specs.State.{State};
-ghost use Rattle.boundary.specs.Answers.{IsGoing};
+ghost use Rattle.boundary.specs.Answers.{HasFrames};
 ghost use Rattle.boundary.specs.Followed.{FollowsAll, HasSmallCounts, here_of};
 ghost use Rattle.boundary.specs.Runs.{RunsAll};
 ghost use Rattle.boundary.specs.Session.{IsStateOf};
@@ -51,7 +51,7 @@ fn follow_to_end<const N: usize, D: Devices, F: Follower>(
     limit: u64,
     follower: &mut F,
 ) -> Result<RunEnd, DeviceFault>
-    requires going { IsGoing running.old.mode }
+    requires going { HasFrames running.old.mode }
     requires few { limit < 2 ^ 63 }
     ensures runs { RunsAll limit running.old.machine running.new.machine (D.told device.old) (D.told device.new) result }
     ensures follows { FollowsAll F.after limit running.old running.new.machine (D.told device.old) (D.told device.new) follower.old follower.new result }
@@ -84,7 +84,7 @@ fn hand_on<const N: usize, F: Follower>(
     before: TopFrame,
     follower: &mut F,
 ) -> TopFrame
-    requires { IsGoing running.now.mode }
+    requires { HasFrames running.now.mode }
     ensures top { TopFollows running.now before result }
     ensures hands { HandsOn F.after running.now before follower.old follower.new }
     ensures small { SeesSmallCounts running.now }
@@ -107,7 +107,7 @@ fn hand_other<const N: usize, F: Follower>(
     before: TopFrame,
     follower: &mut F,
 ) -> TopFrame
-    requires going { IsGoing running.now.mode }
+    requires going { HasFrames running.now.mode }
     requires moved { running.now.machine.vp ≢ before.locals }
     ensures top { TopFollows running.now before result }
     ensures hands { HandsOn F.after running.now before follower.old follower.new }
@@ -120,7 +120,7 @@ fn hand_other<const N: usize, F: Follower>(
 /// What is seen at the boundary at which a run stands, with this top frame.
 #[inline(always)]
 fn here<const N: usize>(running: &Running<'_, N>, top: TopFrame) -> Here
-    requires { IsGoing running.now.mode }
+    requires { HasFrames running.now.mode }
     ensures state { (g : Setting) (s : State) → IsStateOf g running.now.methods running.now.machine s
         → let a : Stage = record { machine = running.now.machine; state = s } in IsTopOf a top → result ≡ here_of a }
     ensures small { HasSmallCounts result }

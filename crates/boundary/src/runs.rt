@@ -1,6 +1,6 @@
 //! A whole run of the machine: to the program's end, or to the last cycle.
 ghost use Rattle.std.specs.Prelude.{◌≡◌, ◌<◌, ◌^◌, IsOk};
-ghost use Rattle.boundary.specs.Answers.{IsGoing};
+ghost use Rattle.boundary.specs.Answers.{HasFrames};
 ghost use Rattle.boundary.specs.Runs.{RunsAll};
 
 use crate::answer::Boundary;
@@ -49,7 +49,7 @@ fn go_to_end<const N: usize, D: Devices>(
     device: &mut D,
     limit: u64,
 ) -> Result<RunEnd, DeviceFault>
-    requires going { IsGoing running.old.mode }
+    requires going { HasFrames running.old.mode }
     requires few { limit < 2 ^ 63 }
     ensures runs { RunsAll limit running.old.machine running.new.machine (D.told device.old) (D.told device.new) result }
     ensures methods { running.new.methods ≡ running.old.methods }

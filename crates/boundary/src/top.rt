@@ -1,7 +1,7 @@
 //! The top frame, from one boundary to the next.
 ghost use Rattle.std.specs.Prelude.{◌≡◌, ◌≢◌, ◌<◌, ◌≤◌, ◌+◌, ◌-◌};
 ghost use Rattle.bytecode_model.specs.State.{State};
-ghost use Rattle.boundary.specs.Answers.{IsGoing};
+ghost use Rattle.boundary.specs.Answers.{HasFrames};
 ghost use Rattle.boundary.specs.Setting.{Setting};
 ghost use Rattle.boundary.specs.Session.{IsStateOf};
 ghost use Rattle.boundary.specs.Tops.{IsTopOf, TopFollows};
@@ -22,7 +22,7 @@ pub struct TopFrame {
 
 /// The top frame of a run that goes on.
 pub fn top_frame<const N: usize>(running: &Running<'_, N>) -> TopFrame
-    requires { IsGoing running.now.mode }
+    requires { HasFrames running.now.mode }
     ensures { (g : Setting) (s : State) → IsStateOf g running.now.methods running.now.machine s
         → IsTopOf (record { machine = running.now.machine; state = s }) result }
 {
@@ -35,7 +35,7 @@ pub fn top_frame<const N: usize>(running: &Running<'_, N>) -> TopFrame
 
 /// The top frame of a run that goes on, by what it was at the boundary before, where VP has moved: a frame was made or left.
 pub fn other_top_frame<const N: usize>(running: &Running<'_, N>, before: TopFrame) -> TopFrame
-    requires going { IsGoing running.now.mode }
+    requires going { HasFrames running.now.mode }
     requires moved { running.now.machine.vp ≢ before.locals }
     ensures { TopFollows running.now before result }
 {

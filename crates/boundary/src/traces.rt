@@ -1,7 +1,7 @@
 //! A run of the machine with its trace: a line at each boundary from which a step is begun, and the lines of what the device
 //! notes in the step.
 ghost use Rattle.std.specs.Prelude.{◌≡◌, ◌<◌, ◌≤◌, ◌^◌, length, IsOk};
-ghost use Rattle.boundary.specs.Answers.{IsGoing};
+ghost use Rattle.boundary.specs.Answers.{HasFrames};
 ghost use Rattle.boundary.specs.Setting.{Setting};
 ghost use Rattle.boundary.specs.Session.{IsStateOf};
 ghost use Rattle.bytecode_model.specs.State.{State};
@@ -52,7 +52,7 @@ fn trace_to_end<'i, 'o, const N: usize, S: Source, O: Sink>(
     device: &mut TraceDevice<'i, 'o, S, O>,
     limit: u64,
 ) -> Result<RunEnd, DeviceFault>
-    requires going { IsGoing running.old.mode }
+    requires going { HasFrames running.old.mode }
     requires few { limit < 2 ^ 63 }
     requires named { length running.old.methods ≤ length names.now }
     ensures traces { TracesAll device.old.cycles (texts names.now) limit running.old running.new.machine
@@ -80,13 +80,13 @@ fn trace_step<'i, 'o, const N: usize, S: Source, O: Sink>(
     names: &[Vec<u8>],
     device: &mut TraceDevice<'i, 'o, S, O>,
 ) -> Result<Boundary, DeviceFault>
-    requires going { IsGoing running.old.mode }
+    requires going { HasFrames running.old.mode }
     requires clock { running.old.machine.clock < 2 ^ 63 }
     requires named { length running.old.methods ≤ length names.now }
     ensures steps { StepTracesAll (texts names.now) running.old running.new.machine (⟦<TraceDevice<'i, 'o, S, O> as Devices>⟧.told device.old)
         (⟦<TraceDevice<'i, 'o, S, O> as Devices>⟧.told device.new) result }
     ensures time { PassesTime running.old.machine running.new.machine result }
-    ensures mode { IsGoing result → running.new.mode ≡ result }
+    ensures mode { HasFrames result → running.new.mode ≡ result }
     ensures methods { running.new.methods ≡ running.old.methods }
     ensures names { ⟦<TraceDevice<'i, 'o, S, O> as Devices>⟧.names device.new ≡ ⟦<TraceDevice<'i, 'o, S, O> as Devices>⟧.names device.old }
 {
@@ -100,7 +100,7 @@ fn put_line<'i, 'o, const N: usize, S: Source, O: Sink>(
     names: &[Vec<u8>],
     device: &mut TraceDevice<'i, 'o, S, O>,
 ) -> Result<(), DeviceFault>
-    requires going { IsGoing running.now.mode }
+    requires going { HasFrames running.now.mode }
     requires named { length running.now.methods ≤ length names.now }
     ensures put { (g : Setting) (s : State) → IsStateOf g running.now.methods running.now.machine s
         → PutsLine (⟦<TraceDevice<'i, 'o, S, O> as Devices>⟧.told device.old) (⟦<TraceDevice<'i, 'o, S, O> as Devices>⟧.told device.new)
@@ -112,7 +112,7 @@ fn put_line<'i, 'o, const N: usize, S: Source, O: Sink>(
 
 /// The boundary at which a run stands.
 fn at_boundary<'n, const N: usize>(running: &Running<'_, N>, names: &'n [Vec<u8>]) -> AtBoundary<'n>
-    requires going { IsGoing running.now.mode }
+    requires going { HasFrames running.now.mode }
     requires named { length running.now.methods ≤ length names.now }
     ensures { (g : Setting) (s : State) → IsStateOf g running.now.methods running.now.machine s
         → boundary_line result ≡ stage_line (texts names.now) g (record { machine = running.now.machine; state = s }) }

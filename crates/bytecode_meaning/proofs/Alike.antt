@@ -23,7 +23,7 @@ use Rattle.frame_types.specs.declared.read.MapEntry.{MapEntry}
 use Rattle.frame_types.specs.Table as types
 use Rattle.frame_types.specs.Table.{object_in, uninitialized_in, tagged_in, one_item_in, append_in, change_in, with_offset, map_entry_in, table_in, table_or_none}
 use Rattle.program_tables.specs.FrameClasses as classes
-use Rattle.program_tables.specs.FrameClasses.{Part, many, counted, behind_delta, whole_table, frame_classes}
+use Rattle.program_tables.specs.FrameClasses.{FramePart, many, counted, behind_delta, whole_table, frame_classes}
 use Rattle.bytecode_meaning.specs.Readings.{names_in_type, names_in_change, names_in, PartsAgree, ReadingsAgree}
 
 abbrev Names : Type 0
@@ -76,7 +76,7 @@ module _ (pool : List Entry) where
       (h.0, right_is ys z.0 true a h.1, is x b.0 ∙ (ap₂ (λ (l r : Names). l ++ r) n h.2 ∙ sym (map-append (class_text pool) ys z.0)))
 
   after : {X Y Z : Type 0} (first : X → Names) (second : Y → Names) (all : Z → Names) (join : X → Y → Z) → ((x : X) (y : Y) → all (join x y) ≡ first x ++ second y)
-      → (o : Reads X) (p : Reads (List ℕ)) → Alike first o p → (f : List ℕ → Reads Y) (g : Part) → ((rest : List ℕ) → Alike second (f rest) (g rest))
+      → (o : Reads X) (p : Reads (List ℕ)) → Alike first o p → (f : List ℕ → Reads Y) (g : FramePart) → ((rest : List ℕ) → Alike second (f rest) (g rest))
       → Alike all (o >>= λ a. (f a.1 >>= λ b. Some (join a.0 b.0, b.1))) (onto p (λ y. onto (g y.1) (λ z. Some (y.0 ++ z.0, z.1))))
   after first second all join is None None h f g k = tt
   after first second all join is None (Some y) h f g k = behind_none all y (g y.1) h
@@ -85,7 +85,7 @@ module _ (pool : List Entry) where
       joined first second all join is a.0 y.0 h.1 h.2 (f a.1) (g y.1) (subst (λ (r : List ℕ). Alike second (f a.1) (g r)) h.0 (k a.1))
 
   -- behind a number
-  numbered : {X : Type 0} (names : X → Names) (o : Reads ℕ) (f : ℕ → List ℕ → Reads X) (g : ℕ → Part) → ((n : ℕ) (rest : List ℕ) → Alike names (f n rest) (g n rest)) → Alike names (o >>= λ n. f n.0 n.1) (onto o (λ n. g n.0 n.1))
+  numbered : {X : Type 0} (names : X → Names) (o : Reads ℕ) (f : ℕ → List ℕ → Reads X) (g : ℕ → FramePart) → ((n : ℕ) (rest : List ℕ) → Alike names (f n rest) (g n rest)) → Alike names (o >>= λ n. f n.0 n.1) (onto o (λ n. g n.0 n.1))
   numbered names None f g k = tt
   numbered names (Some n) f g k = k n.0 n.1
 
@@ -96,13 +96,13 @@ module _ (pool : List Entry) where
   seen names others view same (Some x) None h = absurd h
   seen names others view same (Some x) (Some y) h = (h.0, h.1, same x.0 ∙ h.2)
 
-  many_alike : {X : Type 0} (names : X → Names) (read : List ℕ → Reads X) (part : Part) → ((bytes : List ℕ) → Alike names (read bytes) (part bytes)) → (n : ℕ) (bytes : List ℕ) → Alike (flat_map names) (many_in read n bytes) (many part n bytes)
+  many_alike : {X : Type 0} (names : X → Names) (read : List ℕ → Reads X) (part : FramePart) → ((bytes : List ℕ) → Alike names (read bytes) (part bytes)) → (n : ℕ) (bytes : List ℕ) → Alike (flat_map names) (many_in read n bytes) (many part n bytes)
   unfolding many_in many
   many_alike names read part k zero bytes = (refl, refl, refl)
   many_alike names read part k (suc n) bytes =
       after names (flat_map names) (flat_map names) (λ x xs. x ∷ xs) (λ x xs. refl) (read bytes) (part bytes) (k bytes) (many_in read n) (many part n) (many_alike names read part k n)
 
-  counted_alike : {X : Type 0} (names : X → Names) (read : List ℕ → Reads X) (part : Part) → ((bytes : List ℕ) → Alike names (read bytes) (part bytes)) → (bytes : List ℕ) → Alike (flat_map names) (counted_in read bytes) (counted part bytes)
+  counted_alike : {X : Type 0} (names : X → Names) (read : List ℕ → Reads X) (part : FramePart) → ((bytes : List ℕ) → Alike names (read bytes) (part bytes)) → (bytes : List ℕ) → Alike (flat_map names) (counted_in read bytes) (counted part bytes)
   unfolding counted_in
   counted_alike names read part k bytes = numbered (flat_map names) (number_in 2 bytes) (λ n rest. many_in read n rest) (λ n rest. many part n rest) (many_alike names read part k)
 
@@ -230,10 +230,10 @@ module _ (pool : List Entry) where
     abbrev behind_offset : Reads MapEntry
     behind_offset = number_in 2 bytes >>= λ offset. with_offset offset.0 (change_in pool tag offset.1)
 
-    long_alike : (part : Part) → ((rest : List ℕ) → Alike names_in_change (change_in pool tag rest) (part rest)) → Alike names_in_entry behind_offset (behind_delta part bytes)
+    long_alike : (part : FramePart) → ((rest : List ℕ) → Alike names_in_change (change_in pool tag rest) (part rest)) → Alike names_in_entry behind_offset (behind_delta part bytes)
     long_alike part k = numbered names_in_entry (number_in 2 bytes) (λ offset rest. with_offset offset (change_in pool tag rest)) (λ offset rest. part rest) (λ offset rest. offset_alike offset (change_in pool tag rest) (part rest) (k rest))
 
-    abbrev past : Part
+    abbrev past : FramePart
     past rest = Some ([], rest)
 
     one_changes : (tag == 247) ≡ true → (rest : List ℕ) → Alike names_in_change (change_in pool tag rest) (classes.type_in rest)

@@ -14,7 +14,7 @@ use Rattle.bytecode_model.specs.Program.{Program, Limits, Method, kind_of, type_
 use Rattle.bytecode_model.specs.Sizes.{object_words, made_words}
 use Rattle.bytecode_model.specs.Numbers.{is_equal, low_bits}
 use Rattle.bytecode_model.specs.Rows as rows
-use Rattle.bytecode_model.specs.Rows.{Row, FunctionOf, Width, Form}
+use Rattle.bytecode_model.specs.Rows.{Row, FunctionOf, Width, StackForm}
 use Rattle.bytecode_model.specs.Slots as slots
 
 -- The place goes on to pc, and these are the local variables and the operands then. A new object, one that is read or the byte that the input gives is pushed.
@@ -151,7 +151,7 @@ abbrev pub incremented : Value → ℤ → Option Value
 incremented (Int x) n = Some (number IntType (x +ℤ n))
 incremented v n = None
 
-abbrev pub shuffle : Form → (upper lower : Width) → List Value → Option (List Value)
+abbrev pub shuffle : StackForm → (upper lower : Width) → List Value → Option (List Value)
 shuffle form upper lower ops = slots.shuffle is_long form upper lower ops
 
 -- ---- objects and arrays

@@ -15,10 +15,10 @@ pub data Width : Type 0 where
   One : Width
   Two : Width
 
-pub data Form : Type 0 where
-  Drop : Form
-  Copy : Form
-  Swap : Form
+pub data StackForm : Type 0 where
+  Drop : StackForm
+  Copy : StackForm
+  Swap : StackForm
 
 -- Offsets of branches count from the instruction's own place. The numbers that are taken come from the operand stack, the topmost first.
 pub data Row : Type 0 where
@@ -40,7 +40,7 @@ pub data Row : Type 0 where
   -- a number is added to a local variable
   Increment : (local : ℕ) → ℤ → Row
   -- the topmost words are dropped, copied below the words under them, or exchanged with these
-  Shuffle : Form → (upper lower : Width) → Row
+  Shuffle : StackForm → (upper lower : Width) → Row
   GetStatic : (field : ℕ) → Row
   PutStatic : (field : ℕ) → Row
   GetField : (named owner index : ℕ) → Row

@@ -2,7 +2,7 @@
 -- types of values.
 use Rattle.std.specs.Prelude.{ℕ, zero, suc, Bool, List, [], ◌∷◌, ◌++◌, Option, Some, None, if◌then◌else◌}
 use Rattle.bytecode_model.specs.Lists.{onto}
-use Rattle.bytecode_model.specs.Rows.{Width, Zero, One, Two, Form, Drop, Copy, Swap}
+use Rattle.bytecode_model.specs.Rows.{Width, Zero, One, Two, StackForm, Drop, Copy, Swap}
 
 -- ---- local variables: one that takes two words is followed by an unset one
 
@@ -46,10 +46,10 @@ split long Two [] = None
 split long Two (v ∷ []) = if long v then Some (v ∷ [], []) else None
 split long Two (v ∷ w ∷ ops) = if long v then Some (v ∷ [], w ∷ ops) else if long w then None else Some (v ∷ w ∷ [], ops)
 
-abbrev pub shuffled : {A : Type 0} → Form → (upper lower rest : List A) → List A
+abbrev pub shuffled : {A : Type 0} → StackForm → (upper lower rest : List A) → List A
 shuffled Drop upper lower rest = rest
 shuffled Copy upper lower rest = upper ++ lower ++ upper ++ rest
 shuffled Swap upper lower rest = lower ++ upper ++ rest
 
-abbrev pub shuffle : {A : Type 0} → (long : A → Bool) → Form → (upper lower : Width) → List A → Option (List A)
+abbrev pub shuffle : {A : Type 0} → (long : A → Bool) → StackForm → (upper lower : Width) → List A → Option (List A)
 shuffle long form upper lower ops = onto (split long upper ops) (λ x. onto (split long lower x.1) (λ y. Some (shuffled form x.0 y.0 y.1)))

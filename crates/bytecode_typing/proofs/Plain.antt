@@ -14,7 +14,7 @@ use Rattle.bytecode_model.specs.Program.{Program, Limits, Method, Body, kind_of}
 use Rattle.bytecode_model.specs.Numbers.{is_equal}
 use Rattle.bytecode_model.specs.Slots.{shuffle, stored}
 use Rattle.bytecode_model.specs.Rows as rows
-use Rattle.bytecode_model.specs.Rows.{Row, FunctionOf, Form, Width}
+use Rattle.bytecode_model.specs.Rows.{Row, FunctionOf, StackForm, Width}
 use Rattle.bytecode_model.specs.Effects.{Effect, Go, ArithmeticException, fault, on, or_fault, only_if, number, same, same_bool, incremented, at_offset, branch, offset_of_key, effect}
 use Rattle.bytecode_model.specs.Steps.{answered}
 use Rattle.bytecode_model.specs.WellFormed.{AreSpaced, IsInput}
@@ -207,7 +207,7 @@ module _ (P : Program) (types : Typing) (law : Lawful P) (limits : Limits) (s : 
       int Integer v eu ev g h fl = absurd h
       int u v eu ev g h fl = absurd g
 
-  pub shuffle_fits : (form : Form) (upper lower : Width) → RowChecked (rows.Shuffle form upper lower) → Fit (effect P limits s f next (rows.Shuffle form upper lower))
+  pub shuffle_fits : (form : StackForm) (upper lower : Width) → RowChecked (rows.Shuffle form upper lower) → Fit (effect P limits s f next (rows.Shuffle form upper lower))
   shuffle_fits form upper lower c =
       on_two P types law f.method m b ks Fit K (AllTwo (HasItem P f.method m ks)) (shuffle is_long_type form upper lower t.stack) (shuffle is_long form upper lower f.operands) rule.Stack _ _
       (shuffle_two (HasItem P f.method m ks) is_long_type is_long (λ u v h. h.1) form upper lower t.stack f.operands hs) c

@@ -3,7 +3,7 @@ use Rattle.std.proofs.Common.{◌≡◌, ℕ, zero, suc, Bool, true, false, List
 use Rattle.std.specs.Prelude.{◌&&◌, slice_get, IfSome, if◌then◌else◌}
 use Rattle.std.specs.Option.{IsSomeAnd}
 use Rattle.bytecode_model.specs.Lists.{onto, replaced}
-use Rattle.bytecode_model.specs.Rows.{Width, Zero, One, Two, Form, Drop, Copy, Swap}
+use Rattle.bytecode_model.specs.Rows.{Width, Zero, One, Two, StackForm, Drop, Copy, Swap}
 use Rattle.bytecode_model.specs.Slots.{spread, padded, split, shuffled, shuffle}
 use Rattle.bytecode_typing.specs.Tests.{Holds, AllTwo, all_two}
 
@@ -130,13 +130,13 @@ module _ {A B : Type 0} (R : A → B → Type 0) where
         if_two SplitTwo (la x) (lb y) _ _ _ _ (same x y h.0) ((h.0, tt), h.1)
         (if_two SplitTwo (la x') (lb y') _ _ _ _ (same x' y' h.1.0) tt ((h.0, (h.1.0, tt)), h.1.1))
 
-    shuffled_two : (f : Form) (a b c : List A) (a' b' c' : List B) → AllTwo R a a' → AllTwo R b b' → AllTwo R c c' → AllTwo R (shuffled f a b c) (shuffled f a' b' c')
+    shuffled_two : (f : StackForm) (a b c : List A) (a' b' c' : List B) → AllTwo R a a' → AllTwo R b b' → AllTwo R c c' → AllTwo R (shuffled f a b c) (shuffled f a' b' c')
     shuffled_two Drop a b c a' b' c' h k l = l
     shuffled_two Copy a b c a' b' c' h k l =
         append_two ((a ++ b) ++ a) c ((a' ++ b') ++ a') c' (append_two (a ++ b) a (a' ++ b') a' (append_two a b a' b' h k) h) l
     shuffled_two Swap a b c a' b' c' h k l = append_two (b ++ a) c (b' ++ a') c' (append_two b a b' a' k h) l
 
-    pub shuffle_two : (f : Form) (u l : Width) (xs : List A) (ys : List B) → AllTwo R xs ys → OptTwo (AllTwo R) (shuffle la f u l xs) (shuffle lb f u l ys)
+    pub shuffle_two : (f : StackForm) (u l : Width) (xs : List A) (ys : List B) → AllTwo R xs ys → OptTwo (AllTwo R) (shuffle la f u l xs) (shuffle lb f u l ys)
     shuffle_two f u l xs ys h =
         onto_two SplitTwo (AllTwo R) (split la u xs) (split lb u ys) _ _ (split_two u xs ys h)
         (λ a b r. onto_two SplitTwo (AllTwo R) (split la l a.1) (split lb l b.1) _ _ (split_two l a.1 b.1 r.1)

@@ -11,7 +11,7 @@ ghost use Rattle.program_tables.specs.Meanings.{declared_seen, HasShape};
 ghost use Rattle.verifier_types.specs.Frame.{frame_seen, operands_seen};
 ghost use Rattle.verifier_types.specs.Seen.{type_seen, moved_seen};
 ghost use Rattle.verifier_types.specs.Locals.{HasListsOf, lists_seen};
-ghost use Rattle.verifier_types.specs.Site.{ChecksOver, Site, Checks, checked_seen};
+ghost use Rattle.verifier_types.specs.Site.{ChecksOver, Site, ChecksSite, checked_seen};
 ghost use Rattle.bytecode_verifier.specs.Around.{StandsAt};
 ghost use Rattle.bytecode_verifier.specs.Arguments.{arguments_found};
 ghost use Rattle.bytecode_verifier.specs.Calls.{init_left, super_left, virtual_left};
@@ -72,7 +72,7 @@ pub fn check_static(
     callee: &MethodShape,
 ) -> Result<Checked, NoMemory>
     ensures { IfOk result (λ c. (s : Site) (number : ℕ) (k : model.Method) → StandsAt around.now s → slice_get s.program.methods number ≡ Some k
-        → HasShape callee.now k → Checks s (rows.CallStatic number) frame.old c frame.new) }
+        → HasShape callee.now k → ChecksSite s (rows.CallStatic number) frame.old c frame.new) }
 {
     what_is_taken_is_found();
     let all = match pop_arguments(around, &mut frame.operands, callee.parameters.as_slice()) {
@@ -224,9 +224,9 @@ pub fn check_virtual(
     callee: &MethodShape,
 ) -> Result<Checked, NoMemory>
     ensures class { IfOk result (λ c. (s : Site) (number : ℕ) (k : model.Method) → StandsAt around.now s → s.program.guarded s.number s.place ≡ guarded
-        → slice_get s.program.methods number ≡ Some k → HasShape callee.now k → Checks s (rows.CallVirtual named number) frame.old c frame.new) }
+        → slice_get s.program.methods number ≡ Some k → HasShape callee.now k → ChecksSite s (rows.CallVirtual named number) frame.old c frame.new) }
     ensures interface { IfOk result (λ c. (s : Site) (number : ℕ) (k : model.Method) → StandsAt around.now s → s.program.guarded s.number s.place ≡ guarded
-        → slice_get s.program.methods number ≡ Some k → HasShape callee.now k → Checks s (rows.CallInterface named number) frame.old c frame.new) }
+        → slice_get s.program.methods number ≡ Some k → HasShape callee.now k → ChecksSite s (rows.CallInterface named number) frame.old c frame.new) }
 {
     what_is_taken_is_found();
     let all = match pop_arguments(around, &mut frame.operands, callee.parameters.as_slice()) {
@@ -285,7 +285,7 @@ pub fn check_return(
     given: Option<Moved>,
 ) -> Checked
     ensures { (s : Site) → StandsAt around.now s → s.method.result ≡ option_map declared_seen declared
-        → Checks s (rows.Return (option_map moved_seen given)) frame.old result frame.new }
+        → ChecksSite s (rows.Return (option_map moved_seen given)) frame.old result frame.new }
 {
     match (declared, given) {
         (None, None) => returns(may_return(around, frame.flag)),

@@ -6,7 +6,7 @@ ghost use Rattle.bytecode_typing.specs.Types.{is_initialized};
 ghost use Rattle.bytecode_typing.specs.Checks as checks;
 ghost use Rattle.program_tables.specs.Meanings.{declared_seen};
 ghost use Rattle.verifier_types.specs.Seen.{type_seen};
-ghost use Rattle.verifier_types.specs.Site.{Site, Checks};
+ghost use Rattle.verifier_types.specs.Site.{Site, ChecksSite};
 ghost use Rattle.bytecode_verifier.specs.Around.{StandsAt};
 
 use crate::around::Around;
@@ -18,7 +18,7 @@ use verifier_types::{Checked, GOES, Left, Rule, TypeFrame, VarType, uses};
 /// `getstatic` of a field of this type.
 pub fn check_get_static(frame: &mut TypeFrame, declared: Declared) -> Result<Checked, NoMemory>
     ensures { IfOk result (λ c. (s : Site) (field : ℕ) → slice_get s.program.statics field ≡ Some (declared_seen declared)
-        → Checks s (rows.GetStatic field) frame.old c frame.new) }
+        → ChecksSite s (rows.GetStatic field) frame.old c frame.new) }
 {
     frame.operands.push(type_of(declared))?;
     Ok(GOES)
@@ -27,7 +27,7 @@ pub fn check_get_static(frame: &mut TypeFrame, declared: Declared) -> Result<Che
 /// `putstatic`.
 pub fn check_put_static(around: &Around<'_>, frame: &mut TypeFrame, declared: Declared) -> Checked
     ensures { (s : Site) (field : ℕ) → StandsAt around.now s → slice_get s.program.statics field ≡ Some (declared_seen declared)
-        → Checks s (rows.PutStatic field) frame.old result frame.new }
+        → ChecksSite s (rows.PutStatic field) frame.old result frame.new }
 {
     match frame.operands.pop() {
         Some(item) => {
@@ -50,7 +50,7 @@ pub fn check_get_field(
     declared: Declared,
 ) -> Result<Checked, NoMemory>
     ensures { IfOk result (λ c. (s : Site) (owner index : ℕ) → StandsAt around.now s → s.program.guarded s.number s.place ≡ guarded
-        → slice_get (s.program.fields owner) index ≡ Some (declared_seen declared) → Checks s (rows.GetField named owner index) frame.old c frame.new) }
+        → slice_get (s.program.fields owner) index ≡ Some (declared_seen declared) → ChecksSite s (rows.GetField named owner index) frame.old c frame.new) }
 {
     let object = match frame.operands.pop() {
         Some(item) => item,
@@ -86,7 +86,7 @@ pub fn check_put_field(
     declared: Declared,
 ) -> Checked
     ensures { (s : Site) (index : ℕ) → StandsAt around.now s → s.program.guarded s.number s.place ≡ guarded
-        → slice_get (s.program.fields owner) index ≡ Some (declared_seen declared) → Checks s (rows.PutField named owner index) frame.old result frame.new }
+        → slice_get (s.program.fields owner) index ≡ Some (declared_seen declared) → ChecksSite s (rows.PutField named owner index) frame.old result frame.new }
 {
     let value = match frame.operands.pop() {
         Some(item) => item,

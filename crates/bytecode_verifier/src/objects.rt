@@ -2,7 +2,7 @@
 ghost use Rattle.std.specs.Prelude.{◌≡◌, ℕ, IfOk, OnOk};
 ghost use Rattle.bytecode_model.specs.Rows as rows;
 ghost use Rattle.verifier_types.specs.Locals.{HasListsOf, lists_seen};
-ghost use Rattle.verifier_types.specs.Site.{ChecksOver, Site, Checks};
+ghost use Rattle.verifier_types.specs.Site.{ChecksOver, Site, ChecksSite};
 ghost use Rattle.bytecode_verifier.specs.Around.{StandsAt};
 
 use crate::around::Around;
@@ -36,7 +36,7 @@ pub fn check_new(
 
 /// `athrow`.
 pub fn check_throw(around: &Around<'_>, frame: &mut TypeFrame) -> Checked
-    ensures { (s : Site) → StandsAt around.now s → Checks s rows.Throw frame.old result frame.new }
+    ensures { (s : Site) → StandsAt around.now s → ChecksSite s rows.Throw frame.old result frame.new }
 {
     let item = match frame.operands.pop() {
         Some(item) => item,

@@ -17,7 +17,7 @@ ghost use Rattle.program_tables.specs.Resolved.{resolved};
 ghost use Rattle.program_tables.specs.Tables.{kind_seen};
 ghost use Rattle.verifier_types.specs.Frame.{frame_at_seen};
 ghost use Rattle.verifier_types.specs.Locals.{HasListsOf, LocalTable, lists_seen};
-ghost use Rattle.verifier_types.specs.Site.{Site, Checks};
+ghost use Rattle.verifier_types.specs.Site.{Site, ChecksSite};
 ghost use Rattle.bytecode_verifier.specs.Around.{StandsAt};
 ghost use Rattle.bytecode_verifier.specs.Maps.{frame_over};
 ghost use Rattle.bytecode_verifier.specs.Checking.{IsTyped, IsAt, ChecksRow, ChecksRowIn, ChecksRowOver};
@@ -85,7 +85,7 @@ fn code_of_numbers(instr: &Instr) -> Option<u8>
 
 /// `impdep2`, the output of a byte.
 fn check_write(frame: &mut TypeFrame) -> Checked
-    ensures { (s : Site) → Checks s rows.Write frame.old result frame.new }
+    ensures { (s : Site) → ChecksSite s rows.Write frame.old result frame.new }
 {
     if frame.operands.pop_numbers(&[NumberType::Int]) {
         GOES
@@ -182,7 +182,7 @@ fn check_long(frame: &mut TypeFrame, operand: Operand) -> Result<Checked, NoMemo
 /// `anewarray`, whose array has one dimension more than what it names. No class file names a type of so many dimensions that there
 /// are no more.
 fn check_array_of(frame: &mut TypeFrame, component: ObjectKind) -> Result<Checked, NoMemory>
-    ensures { IfOk result (λ c. (s : Site) → Checks s (rows.NewReferences (kind_seen component)) frame.old c frame.new) }
+    ensures { IfOk result (λ c. (s : Site) → ChecksSite s (rows.NewReferences (kind_seen component)) frame.old c frame.new) }
 {
     match component.dimensions.checked_add(1) {
         Some(dimensions) => check_new_array(
@@ -239,7 +239,7 @@ fn check_static_field(
     writes: bool,
 ) -> Result<Checked, NoMemory>
     ensures { IfOk result (λ c. (s : Site) → s.program ≡ resolved checking.now.program.now → StandsAt checking.now.around s
-        → Checks s (if writes then rows.PutStatic index else rows.GetStatic index) frame.old c frame.new) }
+        → ChecksSite s (if writes then rows.PutStatic index else rows.GetStatic index) frame.old c frame.new) }
 {
     match static_type(checking.program, index) {
         Some(declared) if writes => Ok(check_put_static(&checking.around, frame, declared)),
@@ -257,7 +257,7 @@ fn check_instance_field(
     writes: bool,
 ) -> Result<Checked, NoMemory>
     ensures { IfOk result (λ c. (s : Site) → s.program ≡ resolved checking.now.program.now → StandsAt checking.now.around s
-        → s.program.guarded s.number s.place ≡ guarded → Checks s (if writes then rows.PutField field.0 field.1 field.2 else rows.GetField field.0 field.1
+        → s.program.guarded s.number s.place ≡ guarded → ChecksSite s (if writes then rows.PutField field.0 field.1 field.2 else rows.GetField field.0 field.1
         field.2) frame.old c frame.new) }
 {
     let (named, owner, index) = field;

@@ -2,7 +2,7 @@
 use Rattle.std.proofs.Common.{◌≡◌, ℕ, true, false, sym, subst, arith}
 use Rattle.micro_sketch.proofs.RowSteps.{no_stalls}
 use Rattle.micro_flow.specs.declared.CostParams.{CostParams}
-use Rattle.jop_core.specs.State.{State}
+use Rattle.jop_core.specs.State.{MachineState}
 use Rattle.micro_sketch.specs.Sketch.{Sketch}
 use Rattle.micro_sketch.specs.Stands.{Env}
 use Rattle.micro_sketch.specs.Row.{StandsAt}
@@ -12,7 +12,7 @@ use Rattle.call_steps.specs.Laws.{CallsRun, CallsRaise}
 use Rattle.call_steps.proofs.Parts.{PartLaws, low_of}
 use Rattle.call_steps.proofs.CallMade.{call_made, call_raises}
 
-entry_runs : PartLaws → (n : ℕ) (p : CostParams) (x : Sketch) (e : Env) (s : State) → let z = entered 184 x in StandsAt n p 184 z e s → (c : CanCall n Invokestatic z) → fits Invokestatic z ≡ true
+entry_runs : PartLaws → (n : ℕ) (p : CostParams) (x : Sketch) (e : Env) (s : MachineState) → let z = entered 184 x in StandsAt n p 184 z e s → (c : CanCall n Invokestatic z) → fits Invokestatic z ≡ true
     → RunsCall n p Invokestatic z e c
 entry_runs laws n p x e s h c fit =
     let z = entered 184 x in
@@ -24,7 +24,7 @@ entry_runs laws n p x e s h c fit =
       runs = record { after = m.after; reaches = m.reaches; done = m.done; switches = m.switches; cost = λ k is. laws.costs p 184 k n z m.after e h.entry m.reaches m.done is };
     }
 
-entry_raises : PartLaws → (n : ℕ) (p : CostParams) (x : Sketch) (e : Env) (s : State) → let z = entered 184 x in StandsAt n p 184 z e s → CanCall n Invokestatic z → fits Invokestatic z ≡ false
+entry_raises : PartLaws → (n : ℕ) (p : CostParams) (x : Sketch) (e : Env) (s : MachineState) → let z = entered 184 x in StandsAt n p 184 z e s → CanCall n Invokestatic z → fits Invokestatic z ≡ false
     → RunsToRaise n p 184 (overflow z) z e
 entry_raises laws n p x e s h c fit =
     let z = entered 184 x in

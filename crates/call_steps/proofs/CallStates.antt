@@ -22,7 +22,7 @@ use Rattle.bytecode_model.specs.Effects.{Call, fault_object, StackOverflowError}
 use Rattle.bytecode_model.specs.Steps.{applied, taken_types, with_top, raising}
 use Rattle.image_facts.specs.Places.{Places, object_place, end_of, pool_of}
 use Rattle.image_facts.specs.Says as says
-use Rattle.machine_stands.specs.Frames.{FrameWords, AreOperands, AreFrames, Saves, stacked, sp_over, vp_over}
+use Rattle.machine_stands.specs.Frames.{FrameWords, AreOperands, AreWordsOfFrames, Saves, stacked, sp_over, vp_over}
 use Rattle.machine_stands.specs.StandsFor.{limits_of}
 use Rattle.machine_stands.specs.Comes.{params, ComesTo}
 use Rattle.micro_flow.specs.declared.CostParams.{CostParams}
@@ -44,7 +44,7 @@ use Rattle.call_steps.proofs.Scenes.{CallLaws, is_some_and, size_small, register
 pub there : {A : Type 0} (o : Option A) (x : A) → o ≡ Some x → IsSome o
 there o x h = ap is_some h
 
-module _ (laws : CallLaws) (P : Program) (pl : Places) (n size : ℕ) (m : machine.State) (answer : Option ℕ) (s s' : State) (h : IsStep P pl n size m answer s s') (i : Instr) (r : Row) (t : ℕ) (taken rest : List Value)
+module _ (laws : CallLaws) (P : Program) (pl : Places) (n size : ℕ) (m : machine.MachineState) (answer : Option ℕ) (s s' : State) (h : IsStep P pl n size m answer s s') (i : Instr) (r : Row) (t : ℕ) (taken rest : List Value)
     (mode : s.mode ≡ Running) (linked : P.linked ≡ true) (at : IsAtRow P pl n size m answer s s' h.stands i r) (long : 0 < i.length) (operands : h.stands.top.operands ≡ taken ++ rest)
     (call : applied P (limits_of P pl n size) answer s h.stands.top h.stands.callers (Call t (reverse taken) rest) ≡ Some s') (rows : RowEnters P pl n size m s h.stands i taken t) where
   abbrev pub p : CostParams
@@ -263,7 +263,7 @@ module _ (laws : CallLaws) (P : Program) (pl : Places) (n size : ℕ) (m : machi
         other = ap (λ (fs : List Frame). length s.frames == length fs) frames ∙ other_count s.frames h.stands.callers h.stands.top (new_frame c) (caller c) h.stands.frames;
         is_body = body_is c;
         rest = same_rest c next;
-        are_frames = subst (λ (os : List Object). AreFrames P pl (object_place P pl os) (new_frame c ∷ caller c ∷ h.stands.callers) (new_words c more ∷ caller_words c ∷ h.stands.below)) (sym objects) (
+        are_frames = subst (λ (os : List Object). AreWordsOfFrames P pl (object_place P pl os) (new_frame c ∷ caller c ∷ h.stands.callers) (new_words c more ∷ caller_words c ∷ h.stands.below)) (sym objects) (
           record { locals = a.become more count; saved = saves c; operands = tt },
           (record { locals = h.stands.are_frames.0.locals; saved = h.stands.are_frames.0.saved; operands = a.stay }, h.stands.are_frames.1),
         );

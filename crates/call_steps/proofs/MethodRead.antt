@@ -78,7 +78,7 @@ both_tests a b e h = ap (λ (t : Bool). t && b) e ∙ h
 -- ---- the record
 
 -- on a sketch with the memory and the cache of the machine
-read_here : ReadLaws → (P : Program) (pl : Places) (n size : ℕ) (m : machine.State) (s : State) (st : StandsFor P pl n size m s) (y : Sketch) → IsWellFormed P (limits_of P pl n size) s
+read_here : ReadLaws → (P : Program) (pl : Places) (n size : ℕ) (m : machine.MachineState) (s : State) (st : StandsFor P pl n size m s) (y : Sketch) → IsWellFormed P (limits_of P pl n size) s
     → Says P pl → SaysLinked P pl → (j : ℕ) (k : Method) (b : Body) → slice_get P.methods j ≡ Some k → k.body ≡ Some b → body_of P j ≡ Some b
     → IsRead P pl (record y { memory = m.port.words; cache = m.cache }) k b (pl.method j)
 read_here laws P pl n size m s st y well says_all linked j k b method body body_is =

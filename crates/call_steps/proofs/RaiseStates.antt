@@ -1,6 +1,6 @@
 -- A step of the raise routine, from the step to where the machine stands for the next state.
-use Rattle.std.proofs.Common.{◌≡◌, ◌⊎◌, ℕ, zero, suc, ◌+◌, ◌-◌, ◌*◌, ◌%◌, ◌^◌, ◌<◌, ◌≤◌, Bool, true, false, if◌then◌else◌, List, [], ◌∷◌, ◌++◌, Option, Some, None, Result, Ok, Err, length, drop, reverse, refl, sym, ap, ◌∙◌, subst, arith, append_assoc, length-append, ⊎_elim}
-use Rattle.std.specs.Prelude.{slice_get, slice_index, All, IfSome, IsSomeAnd}
+use Rattle.std.proofs.Common.{◌≡◌, ◌⊎◌, ℕ, suc, ◌+◌, ◌-◌, ◌*◌, ◌%◌, ◌^◌, ◌<◌, ◌≤◌, Bool, true, false, if◌then◌else◌, List, [], ◌∷◌, ◌++◌, Option, Some, None, Result, Ok, Err, length, reverse, refl, sym, ap, ◌∙◌, subst, arith, append_assoc, length-append, ⊎_elim}
+use Rattle.std.specs.Prelude.{slice_get, slice_index, IfSome}
 use Rattle.std.proofs.lemmas.Option.{none-some}
 use Rattle.std.proofs.lemmas.List.{get_or-drop, length-reverse, reverse-append, reverse-reverse}
 use Rattle.std.proofs.lemmas.List.Sums.{sum_by-cons}
@@ -22,7 +22,7 @@ use Rattle.micro_sketch.specs.View.{env_of}
 use Rattle.micro_sketch.specs.Rows.{Switch, Switches}
 use Rattle.bytecode_model.specs.declared.Value.TheVariants.{Ref}
 use Rattle.bytecode_model.specs.declared.Ending.{Ending}
-use Rattle.bytecode_model.specs.declared.Ending.TheVariants.{Running, Raising, Uncaught}
+use Rattle.bytecode_model.specs.declared.Ending.TheVariants.{Raising, Uncaught}
 use Rattle.bytecode_model.specs.Lists.{onto}
 use Rattle.bytecode_model.specs.Types.{Kind, OfClass, OfNumbers, OfReferences}
 use Rattle.bytecode_model.specs.State.{Object, Frame, State}
@@ -32,22 +32,21 @@ use Rattle.bytecode_model.specs.Steps.{step, step_in, unwound, handler_for, clas
 use Rattle.bytecode_model.specs.WellFormed as formed
 use Rattle.image_facts.specs.Places.{Places, object_place, end_of, pool_of}
 use Rattle.image_facts.specs.Says.{SaysAll, SaysLinked, SaysMethod, IsCode}
-use Rattle.machine_stands.specs.Frames.{FrameWords, AreFrames, Saves, stacked, sp_over, vp_over}
+use Rattle.machine_stands.specs.Frames.{FrameWords, AreWordsOfFrames, Saves, stacked, sp_over, vp_over}
 use Rattle.machine_stands.specs.StandsFor.{IsAt, IsAtRaise, limits_of}
 use Rattle.machine_stands.specs.Comes.{ComesTo}
 use Rattle.machine_stands.specs.Simulates.{IsStep, Unwinds}
 use Rattle.machine_stands.specs.Again.{registers_of}
-use Rattle.machine_stands.specs.Stopping.{SameRest}
 use Rattle.machine_stands.specs.Switching.{FindsBy}
 use Rattle.machine_stands.specs.Operands.{OperandsHaveWords}
 use Rattle.machine_stands.specs.Counted.{FramesHaveRoom, FiveAreSaved}
-use Rattle.machine_stands.specs.Unwinding.{IsSeenRaising, raise_params, seen_raise, RaisesAreSeen, HandlesOn, HandlersCome, DropsOn, DropsCome, UncaughtCome}
+use Rattle.machine_stands.specs.Unwinding.{IsSeenRaising, raise_params, seen_raise, RaisesAreSeen, HandlersCome, DropsCome, UncaughtCome}
 use Rattle.call_steps.specs.Method as record_at
 use Rattle.call_steps.specs.Method.{with_method, looked_up, as_it_stands}
 use Rattle.call_steps.specs.Returns.{Saved, saved_words}
 use Rattle.call_steps.specs.Coming.{IsRead, MethodsAreRead}
-use Rattle.call_steps.specs.Raise.{IsRaising, method_of, type_of, HasTable, handler_of, HasFrame, handle, HandlersRun, HasCaller, FramesDrop, LastStops, AreEntries, target_for}
-use Rattle.call_steps.proofs.RaiseTables.{TableLaws, type_read, entries_of, HasType, has_type, Inside, handler_is, HasHandlers, has_handlers}
+use Rattle.call_steps.specs.Raise.{IsRaising, method_of, type_of, HasTable, handler_of, HasFrame, HandlersRun, HasCaller, FramesDrop, LastStops, AreEntries, target_for}
+use Rattle.call_steps.proofs.RaiseTables.{TableLaws, type_read, entries_of, HasType, has_type, Inside, handler_is, has_handlers}
 
 pub record StateLaws : Type 0 where
   pub seen : RaisesAreSeen
@@ -100,7 +99,7 @@ is_class (OfNumbers a) c h = absurd (none-some c h)
 is_class (OfReferences k) c h = absurd (none-some c h)
 
 -- a look-up, as the machine of the state does it
-finds : (x : Sketch) (m : machine.State) (place : ℕ) (words : List ℕ) (f : Switch) → x.cache ≡ m.cache → x.hits ≡ m.hits → x.misses ≡ m.misses → found_words x place ≡ words → code_words x.memory place ≡ length words
+finds : (x : Sketch) (m : machine.MachineState) (place : ℕ) (words : List ℕ) (f : Switch) → x.cache ≡ m.cache → x.hits ≡ m.hits → x.misses ≡ m.misses → found_words x place ≡ words → code_words x.memory place ≡ length words
     → (hit : Bool) → is_cached place m.cache ≡ hit → FindsBy hit place words m (looked_up x place f)
 finds x m place words f cache hits misses found count true is =
     let there : is_cached place x.cache ≡ true = ap (λ (c : Cache). is_cached place c) cache ∙ is in
@@ -134,7 +133,7 @@ turns_found p = refl
 turns_end : (p : CostParams) → turns_at p (END - 1) ≡ 1
 turns_end p = refl
 
-module _ (laws : StateLaws) (P : Program) (pl : Places) (n size : ℕ) (m : machine.State) (answer : Option ℕ) (s s' : State) (object : ℕ) (h : IsStep P pl n size m answer s s') (mode : s.mode ≡ Raising object) (linked : P.linked ≡ true) where
+module _ (laws : StateLaws) (P : Program) (pl : Places) (n size : ℕ) (m : machine.MachineState) (answer : Option ℕ) (s s' : State) (object : ℕ) (h : IsStep P pl n size m answer s s') (mode : s.mode ≡ Raising object) (linked : P.linked ≡ true) where
   abbrev pub top : Frame
   top = h.stands.top
 
@@ -359,7 +358,7 @@ module _ (laws : StateLaws) (P : Program) (pl : Places) (n size : ℕ) (m : mach
 
   caller_of : (c : Frame) (cs : List Frame) (w : FrameWords) (ws : List FrameWords) → h.stands.callers ≡ c ∷ cs → h.stands.below ≡ w ∷ ws → Caller c cs w ws
   caller_of c cs w ws callers belows =
-      let are = subst (λ (gs : List Frame). AreFrames P pl place gs (w ∷ ws)) callers (subst (λ (vs : List FrameWords). AreFrames P pl place h.stands.callers vs) belows h.stands.are_frames.1) in
+      let are = subst (λ (gs : List Frame). AreWordsOfFrames P pl place gs (w ∷ ws)) callers (subst (λ (vs : List FrameWords). AreWordsOfFrames P pl place h.stands.callers vs) belows h.stands.are_frames.1) in
       let saves = subst (λ (gs : List Frame). Saves P pl gs (w ∷ ws) h.stands.words.saved) callers (subst (λ (vs : List FrameWords). Saves P pl h.stands.callers vs h.stands.words.saved) belows h.stands.are_frames.0.saved) in
       let well = subst (λ (gs : List Frame). formed.AreFrames P (length s.objects) gs) callers frames_formed.1 in
       let b = some_is (body_of P c.method) (formed.IsFrame P (length s.objects) c) well.0 in
@@ -479,9 +478,9 @@ module _ (laws : StateLaws) (P : Program) (pl : Places) (n size : ℕ) (m : mach
   by_callers : (r : Raised) → handler_for P r.kind top.pc body.handlers ≡ None → (cs : List Frame) (ws : List FrameWords) → h.stands.callers ≡ cs → h.stands.below ≡ ws → ComesTo P pl n size m s s'
   by_callers r none [] [] callers belows = comes_to_end r callers belows none
   by_callers r none [] (w ∷ ws) callers belows =
-      absurd (subst (λ (gs : List Frame). AreFrames P pl place gs (w ∷ ws)) callers (subst (λ (vs : List FrameWords). AreFrames P pl place h.stands.callers vs) belows h.stands.are_frames.1))
+      absurd (subst (λ (gs : List Frame). AreWordsOfFrames P pl place gs (w ∷ ws)) callers (subst (λ (vs : List FrameWords). AreWordsOfFrames P pl place h.stands.callers vs) belows h.stands.are_frames.1))
   by_callers r none (c ∷ cs) [] callers belows =
-      absurd (subst (λ (gs : List Frame). AreFrames P pl place gs []) callers (subst (λ (vs : List FrameWords). AreFrames P pl place h.stands.callers vs) belows h.stands.are_frames.1))
+      absurd (subst (λ (gs : List Frame). AreWordsOfFrames P pl place gs []) callers (subst (λ (vs : List FrameWords). AreWordsOfFrames P pl place h.stands.callers vs) belows h.stands.are_frames.1))
   by_callers r none (c ∷ cs) (w ∷ ws) callers belows = comes_to_caller r c cs w ws callers belows none
 
   pub step_comes : ComesTo P pl n size m s s'

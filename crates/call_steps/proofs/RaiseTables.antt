@@ -1,6 +1,6 @@
 -- The exception table of a method and the type of an object, in the memory of a machine that stands for a state.
-use Rattle.std.proofs.Common.{◌≡◌, ◌⊎◌, inl, inr, ℕ, zero, suc, ◌+◌, ◌-◌, ◌*◌, ◌/◌, ◌%◌, ◌^◌, ◌<◌, ◌≤◌, ◌==◌, ◌&&◌, ◌||◌, Bool, true, false, nat_lt, nat_le, if◌then◌else◌, List, [], ◌∷◌, ◌++◌, Option, Some, None, length, map, drop, refl, sym, ap, ◌∙◌, subst, arith, add-zero, length-append, ⊎_elim, eqb-true, lt-ltb}
-use Rattle.std.specs.Prelude.{slice_get, slice_index, All, IfSome, IsSome, IsSomeAnd, Ok}
+use Rattle.std.proofs.Common.{◌≡◌, ◌⊎◌, ℕ, zero, suc, ◌+◌, ◌-◌, ◌*◌, ◌/◌, ◌%◌, ◌^◌, ◌<◌, ◌≤◌, ◌==◌, ◌&&◌, ◌||◌, Bool, true, false, nat_lt, nat_le, if◌then◌else◌, List, [], ◌∷◌, ◌++◌, Option, Some, None, length, map, refl, sym, ap, ◌∙◌, subst, arith, add-zero, length-append, ⊎_elim, eqb-true, lt-ltb}
+use Rattle.std.specs.Prelude.{slice_get, slice_index, All, IfSome, IsSome, Ok}
 use Rattle.std.specs.List.{flat_map}
 use Rattle.std.specs.Int.{div_ceil}
 use Rattle.std.proofs.lemmas.Option.{none-some}
@@ -16,7 +16,7 @@ use Rattle.memory_timing.specs.Port.{padded}
 use Rattle.bytecode_model.specs.Lists.{onto, index_of}
 use Rattle.bytecode_model.specs.Types.{Kind, OfClass, OfNumbers, OfReferences, same_kind}
 use Rattle.bytecode_model.specs.State.{Object, State}
-use Rattle.bytecode_model.specs.Program.{Program, Method, Body, Handler, kind_of, type_number, is_of}
+use Rattle.bytecode_model.specs.Program.{Program, Method, Body, Handler, type_number, is_of}
 use Rattle.bytecode_model.specs.Effects.{component_of}
 use Rattle.bytecode_model.specs.Steps as steps
 use Rattle.bytecode_model.specs.WellFormed.{IsWellFormed}
@@ -53,7 +53,7 @@ lie_padded ahead size whole place words l =
     record { before = d.before; after = d.after; split = d.split; place_is = d.place_is }
 
 -- the first word of an object is the place of its type
-pub type_read : TableLaws → (P : Program) (pl : Places) (n size : ℕ) (m : machine.State) (s : State) (p : ℕ) (o : Object) → StandsFor P pl n size m s → IsWellFormed P (limits_of P pl n size) s
+pub type_read : TableLaws → (P : Program) (pl : Places) (n size : ℕ) (m : machine.MachineState) (s : State) (p : ℕ) (o : Object) → StandsFor P pl n size m s → IsWellFormed P (limits_of P pl n size) s
     → slice_get s.objects p ≡ Some o → slice_index m.port.words (object_place P pl s.objects p) ≡ pl.type o.kind
 type_read laws P pl n size m s p o st well is =
     let place = object_place P pl s.objects in
@@ -117,7 +117,7 @@ pub record HasType (P : Program) (memory : List ℕ) (type : ℕ) (k : Kind) : T
 ceiling : (u n : ℕ) → u < n → u / 32 < div_ceil n 32
 ceiling u n h = omega arith
 
-pub has_type : TableLaws → (P : Program) (pl : Places) (n size : ℕ) (m : machine.State) (s : State) (t : ℕ) (k : Kind) → StandsFor P pl n size m s → IsWellFormed P (limits_of P pl n size) s → SaysLinked P pl
+pub has_type : TableLaws → (P : Program) (pl : Places) (n size : ℕ) (m : machine.MachineState) (s : State) (t : ℕ) (k : Kind) → StandsFor P pl n size m s → IsWellFormed P (limits_of P pl n size) s → SaysLinked P pl
     → slice_get P.types t ≡ Some k → HasType P m.port.words (pl.type t) k
 has_type laws P pl n size m s t k st well says is =
     let said = holds_for (slice_get P.types t) k (SaysType P pl t) is (says.types t) in
@@ -277,7 +277,7 @@ handlers_long : (P : Program) (hs : List Handler) → length (flat_map (handler_
 handlers_long P [] = refl
 handlers_long P (h ∷ hs) = omega (arith, length-append (handler_words P h) (flat_map (handler_words P) hs), handlers_long P hs)
 
-pub has_handlers : TableLaws → (P : Program) (pl : Places) (n size : ℕ) (m : machine.State) (s : State) (j : ℕ) (k : Method) (b : Body) (type : ℕ) (kind : Kind) → StandsFor P pl n size m s
+pub has_handlers : TableLaws → (P : Program) (pl : Places) (n size : ℕ) (m : machine.MachineState) (s : State) (j : ℕ) (k : Method) (b : Body) (type : ℕ) (kind : Kind) → StandsFor P pl n size m s
     → IsWellFormed P (limits_of P pl n size) s → SaysMethod P pl j k b → HasType P m.port.words type kind → 0 < length b.code → HasHandlers P m.port.words (pl.method j) type b
 has_handlers laws P pl n size m s j k b type kind st well said has some =
     let words = method_words P pl k b in

@@ -48,7 +48,7 @@ lie_padded ahead size whole place words l =
     record { before = d.before; after = d.after; split = d.split; place_is = d.place_is }
 
 -- the first word of an object is the place of its type
-pub type_read : ObjectLaws → (P : Program) (pl : Places) (n size : ℕ) (m : machine.State) (s : State) (p : ℕ) (o : Object) → StandsFor P pl n size m s → IsWellFormed P (limits_of P pl n size) s
+pub type_read : ObjectLaws → (P : Program) (pl : Places) (n size : ℕ) (m : machine.MachineState) (s : State) (p : ℕ) (o : Object) → StandsFor P pl n size m s → IsWellFormed P (limits_of P pl n size) s
     → slice_get s.objects p ≡ Some o → slice_index m.port.words (object_place P pl s.objects p) ≡ pl.type o.kind
 type_read laws P pl n size m s p o st well is =
     let place = object_place P pl s.objects in
@@ -61,18 +61,18 @@ type_read laws P pl n size m s p o st well is =
 -- ---- its tables
 
 -- a word of the record of a type
-pub record TypeWord (P : Program) (pl : Places) (size : ℕ) (m : machine.State) (t k word : ℕ) : Type 0 where
+pub record TypeWord (P : Program) (pl : Places) (size : ℕ) (m : machine.MachineState) (t k word : ℕ) : Type 0 where
   pub within : pl.type t + k < size
   pub is : slice_index m.port.words (pl.type t + k) ≡ word
 
-pub record Tables (P : Program) (pl : Places) (size : ℕ) (m : machine.State) (t : ℕ) : Type 0 where
+pub record Tables (P : Program) (pl : Places) (size : ℕ) (m : machine.MachineState) (t : ℕ) : Type 0 where
   pub methods : TypeWord P pl size m t 3 (pl.method_table t)
   pub interfaces : TypeWord P pl size m t 4 (pl.interface_table t)
 
 says_type : (P : Program) (pl : Places) (t : ℕ) (k : Kind) → SaysLinked P pl → slice_get P.types t ≡ Some k → SaysType P pl t k
 says_type P pl t k says is = subst (λ (o : Option Kind). IfSome o (SaysType P pl t)) is (says.types t)
 
-pub tables_read : ObjectLaws → (P : Program) (pl : Places) (n size : ℕ) (m : machine.State) (s : State) (t : ℕ) (k : Kind) → StandsFor P pl n size m s → IsWellFormed P (limits_of P pl n size) s → SaysLinked P pl
+pub tables_read : ObjectLaws → (P : Program) (pl : Places) (n size : ℕ) (m : machine.MachineState) (s : State) (t : ℕ) (k : Kind) → StandsFor P pl n size m s → IsWellFormed P (limits_of P pl n size) s → SaysLinked P pl
     → slice_get P.types t ≡ Some k → Tables P pl size m t
 tables_read laws P pl n size m s t k st well says is =
     let said = says_type P pl t k says is in
@@ -81,7 +81,7 @@ tables_read laws P pl n size m s t k st well says is =
     record { methods = record { within = three.0; is = three.1 }; interfaces = record { within = four.0; is = four.1 } }
 
 -- a word of a table of the object, at the place of the pool's entry
-pub table_read : ObjectLaws → (P : Program) (pl : Places) (n size : ℕ) (m : machine.State) (s : State) (x : Sketch) (receiver t k table word : ℕ) → StandsFor P pl n size m s → IsWellFormed P (limits_of P pl n size) s
+pub table_read : ObjectLaws → (P : Program) (pl : Places) (n size : ℕ) (m : machine.MachineState) (s : State) (x : Sketch) (receiver t k table word : ℕ) → StandsFor P pl n size m s → IsWellFormed P (limits_of P pl n size) s
     → x.memory ≡ m.port.words → slice_index m.port.words receiver ≡ pl.type t → TypeWord P pl size m t k table → AreFixed P pl (table + second_word x % 2 ^ 24) (word ∷ []) → table_word x k receiver ≡ word
 table_read laws P pl n size m s x receiver t k table word st well memory type at fixed =
     let slot = second_word x % 2 ^ 24 in

@@ -3,7 +3,7 @@ use Rattle.std.proofs.Common.{ℕ, ◌==◌, ◌&&◌, true, [], ◌∷◌, refl
 use Rattle.micro_sketch.proofs.RowSteps.{no_stalls}
 use Rattle.micro_flow.specs.declared.CostParams.{CostParams}
 use Rattle.jop_core.specs.declared.halt.Halt.TheVariants.{Ended}
-use Rattle.jop_core.specs.State.{State}
+use Rattle.jop_core.specs.State.{MachineState}
 use Rattle.micro_sketch.specs.Sketch.{Sketch, same_bool}
 use Rattle.micro_sketch.specs.Stands.{Env}
 use Rattle.micro_sketch.specs.Row.{StandsAt}
@@ -14,7 +14,7 @@ use Rattle.call_steps.specs.Laws.{ReturnsRun, ReturnsEnd}
 use Rattle.call_steps.proofs.Parts.{PartLaws, low_of}
 use Rattle.call_steps.proofs.Returning.{ReturnMade, return_made}
 
-made : PartLaws → (n : ℕ) (op : ReturnOp) (p : CostParams) (x : Sketch) (e : Env) (s : State) → let z = entered (return_code op) x in StandsAt n p (return_code op) z e s → (c : CanReturn op z) → ReturnMade n op z e c
+made : PartLaws → (n : ℕ) (op : ReturnOp) (p : CostParams) (x : Sketch) (e : Env) (s : MachineState) → let z = entered (return_code op) x in StandsAt n p (return_code op) z e s → (c : CanReturn op z) → ReturnMade n op z e c
 made laws n Return p x e s h c =
     let z = entered 177 x in
     let js = z.above in
@@ -32,7 +32,7 @@ made laws n Lreturn p x e s h c =
     let js = z.above in
     return_made laws n Lreturn z (low_of z.low) z.top z.next (head_of z.under) (head_of (tail_of z.under)) (head_of js) 0 0 (tail_of (tail_of z.under)) (tail_of js) e c h.shape h.entry.idle
 
-entry_runs : PartLaws → (n : ℕ) (p : CostParams) (op : ReturnOp) (x : Sketch) (e : Env) (s : State) → let z = entered (return_code op) x in StandsAt n p (return_code op) z e s → (c : CanReturn op z)
+entry_runs : PartLaws → (n : ℕ) (p : CostParams) (op : ReturnOp) (x : Sketch) (e : Env) (s : MachineState) → let z = entered (return_code op) x in StandsAt n p (return_code op) z e s → (c : CanReturn op z)
     → RunsSwitch n p (return_code op) (returns.return op z c) z e
 entry_runs laws n p op x e s h c =
     let m = made laws n op p x e s h c in

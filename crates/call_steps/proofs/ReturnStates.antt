@@ -1,6 +1,6 @@
 -- A return, from the step to where the machine stands for the next state: back in the caller, or at the end.
 use Rattle.std.proofs.Common.{◌≡◌, ℕ, ◌+◌, ◌-◌, ◌^◌, ◌<◌, ◌==◌, Bool, true, false, List, [], ◌∷◌, ◌++◌, Option, Some, None, Result, Ok, Err, length, drop, reverse, refl, sym, ap, ◌∙◌, subst, arith, length-append, append_assoc}
-use Rattle.std.specs.Prelude.{slice_get, slice_index, IsSomeAnd, IfSome}
+use Rattle.std.specs.Prelude.{slice_get, slice_index, IfSome}
 use Rattle.std.proofs.lemmas.Bool.Decides.{nat_tests}
 use Rattle.std.proofs.lemmas.Option.{none-some}
 use Rattle.std.proofs.lemmas.List.{length-reverse, reverse-append, reverse-reverse}
@@ -31,7 +31,7 @@ use Rattle.bytecode_model.specs.Steps.{applied, left, resumed, with_result, with
 use Rattle.bytecode_model.specs.WellFormed as formed
 use Rattle.image_facts.specs.Places.{Places, object_place, end_of, pool_of}
 use Rattle.image_facts.specs.Says.{SaysAll, IsCode}
-use Rattle.machine_stands.specs.Frames.{FrameWords, AreFrames, Saves, stacked, sp_over, vp_over}
+use Rattle.machine_stands.specs.Frames.{FrameWords, AreWordsOfFrames, Saves, stacked, sp_over, vp_over}
 use Rattle.machine_stands.specs.StandsFor.{limits_of}
 use Rattle.machine_stands.specs.Comes.{params, ComesTo}
 use Rattle.machine_stands.specs.Simulates.{IsStep}
@@ -43,7 +43,7 @@ use Rattle.machine_stands.specs.Shown.{Shows}
 use Rattle.call_steps.specs.Method as record_at
 use Rattle.call_steps.specs.Method.{with_method, looked_up, as_it_stands}
 use Rattle.call_steps.specs.Returns as returns
-use Rattle.call_steps.specs.Returns.{ReturnOp, Return, Ireturn, Areturn, Lreturn, return_code, result, Saved, saved_words, CanReturn}
+use Rattle.call_steps.specs.Returns.{ReturnOp, Return, Ireturn, Areturn, Lreturn, return_code, result, Saved, CanReturn}
 use Rattle.call_steps.specs.Coming.{IsRead}
 use Rattle.call_steps.proofs.Scenes.{StateLaws, size_small, register, Counted, counted, finds}
 use Rattle.call_steps.proofs.ReturnSteps.{Leaves, leaves, form_read, is_return, returned, leaving}
@@ -67,7 +67,7 @@ unequal a b h = grind (arith, nat_tests, h)
 
 -- ---- the instruction
 
-module _ (laws : StateLaws) (P : Program) (pl : Places) (n size : ℕ) (m : machine.State) (answer : Option ℕ) (s s' : State) (h : IsStep P pl n size m answer s s') (mode : s.mode ≡ Running) (op : ReturnOp) (opcode : m.opcode ≡ return_code op) where
+module _ (laws : StateLaws) (P : Program) (pl : Places) (n size : ℕ) (m : machine.MachineState) (answer : Option ℕ) (s s' : State) (h : IsStep P pl n size m answer s s') (mode : s.mode ≡ Running) (op : ReturnOp) (opcode : m.opcode ≡ return_code op) where
   abbrev pub instr : Instr
   instr = plain_instr (return_code op) h.stands.body.code h.stands.top.pc (one Absent)
 
@@ -129,14 +129,14 @@ module _ (laws : StateLaws) (P : Program) (pl : Places) (n size : ℕ) (m : mach
     is_called : instr_at P frame.method frame.pc ≡ Some called
     small : frame.pc + called.length < 2 ^ 16
     five : length words.saved ≡ 5
-    are : AreFrames P pl place (frame ∷ others) (words ∷ below)
+    are : AreWordsOfFrames P pl place (frame ∷ others) (words ∷ below)
     saved : h.stands.words.saved ≡ sp_over (words ∷ below) ∷ (frame.pc + called.length) ∷ vp_over below ∷ pool_of P pl frame.method ∷ pl.method frame.method ∷ []
 
   caller_of : (frame : Frame) (others : List Frame) (words : FrameWords) (below : List FrameWords) → h.stands.callers ≡ frame ∷ others → h.stands.below ≡ words ∷ below → Caller
   caller_of frame others words below callers belows =
       let fs = frame ∷ others in
       let ws = words ∷ below in
-      let are = subst (λ (gs : List Frame). AreFrames P pl place gs ws) callers (subst (λ (vs : List FrameWords). AreFrames P pl place h.stands.callers vs) belows h.stands.are_frames.1) in
+      let are = subst (λ (gs : List Frame). AreWordsOfFrames P pl place gs ws) callers (subst (λ (vs : List FrameWords). AreWordsOfFrames P pl place h.stands.callers vs) belows h.stands.are_frames.1) in
       let saves = subst (λ (gs : List Frame). Saves P pl gs ws h.stands.words.saved) callers (subst (λ (vs : List FrameWords). Saves P pl h.stands.callers vs h.stands.words.saved) belows h.stands.are_frames.0.saved) in
       let well = subst (λ (gs : List Frame). formed.AreFrames P (length s.objects) gs) callers here.callers in
       let body = some_is (body_of P frame.method) (formed.IsFrame P (length s.objects) frame) well.0 in
@@ -288,7 +288,7 @@ module _ (laws : StateLaws) (P : Program) (pl : Places) (n size : ℕ) (m : mach
         other = ap (λ (fs : List Frame). length s.frames == length fs) frames ∙ other_count c frame;
         is_body = c.is_body;
         rest = record { objects = ap (λ (u : State). u.objects) next; statics = ap (λ (u : State). u.statics) next; answers = ap (λ (u : State). u.answers) next; output = ap (λ (u : State). u.output) next };
-        are_frames = subst (λ (os : List Object). AreFrames P pl (object_place P pl os) (frame ∷ c.others) (words ∷ c.below)) (sym (ap (λ (u : State). u.objects) next))
+        are_frames = subst (λ (os : List Object). AreWordsOfFrames P pl (object_place P pl os) (frame ∷ c.others) (words ∷ c.below)) (sym (ap (λ (u : State). u.objects) next))
             (record { locals = c.are.0.locals; saved = c.are.0.saved; operands = g.given c.frame.operands c.words.operands c.are.0.operands }, c.are.1);
         stack = sym (append_assoc g.words c.words.operands (reverse c.words.saved));
         deep = refl;
@@ -357,8 +357,8 @@ module _ (laws : StateLaws) (P : Program) (pl : Places) (n size : ℕ) (m : mach
   pub return_comes : ComesTo P pl n size m s s'
   return_comes = by h.stands.callers h.stands.below refl refl
     where
-      are : (cs : List Frame) (ws : List FrameWords) → h.stands.callers ≡ cs → h.stands.below ≡ ws → AreFrames P pl place cs ws
-      are cs ws callers below = subst (λ (gs : List Frame). AreFrames P pl place gs ws) callers (subst (λ (vs : List FrameWords). AreFrames P pl place h.stands.callers vs) below h.stands.are_frames.1)
+      are : (cs : List Frame) (ws : List FrameWords) → h.stands.callers ≡ cs → h.stands.below ≡ ws → AreWordsOfFrames P pl place cs ws
+      are cs ws callers below = subst (λ (gs : List Frame). AreWordsOfFrames P pl place gs ws) callers (subst (λ (vs : List FrameWords). AreWordsOfFrames P pl place h.stands.callers vs) below h.stands.are_frames.1)
 
       by : (cs : List Frame) (ws : List FrameWords) → h.stands.callers ≡ cs → h.stands.below ≡ ws → ComesTo P pl n size m s s'
       by [] [] callers below = comes_to_end left_now callers below

@@ -70,12 +70,12 @@ pub size_small : (n : ℕ) → IsSize n → (256 ≤ n) × (n ≤ 1024)
 size_small n h = ⊎_elim (λ (e : n ≡ 256). (omega (arith, e), omega (arith, e))) (λ other. ⊎_elim (λ (e : n ≡ 512). (omega (arith, e), omega (arith, e))) (λ (e : n ≡ 1024). (omega (arith, e), omega (arith, e))) other) h
 
 -- the on-chip places from 24 on
-pub register : (P : Program) (pl : Places) (n size : ℕ) (m : machine.State) (s : State) (st : StandsFor P pl n size m s) (p : CostParams) (x : Sketch) → (shows : Shows P pl n size m s st p x) → (k : ℕ)
+pub register : (P : Program) (pl : Places) (n size : ℕ) (m : machine.MachineState) (s : State) (st : StandsFor P pl n size m s) (p : CostParams) (x : Sketch) → (shows : Shows P pl n size m s st p x) → (k : ℕ)
     → slice_index x.low (24 + k) ≡ slice_index (registers_of P pl n size s st.top shows.raised) k
 register P pl n size m s st p x shows k = sym (get_or-drop 24 x.low k 0) ∙ ap (λ (ws : List ℕ). slice_index ws k) shows.low
 
 -- the words of the frames below the top one, and of that
-pub record Counted (P : Program) (pl : Places) (n size : ℕ) (m : machine.State) (s : State) (st : StandsFor P pl n size m s) : Type 0 where
+pub record Counted (P : Program) (pl : Places) (n size : ℕ) (m : machine.MachineState) (s : State) (st : StandsFor P pl n size m s) : Type 0 where
   pub below : length (stacked st.below) ≤ frames_words P st.callers
   pub locals : length st.top.locals ≡ st.body.max_locals
   pub top : frame_words P st.top ≡ body_words st.body
@@ -86,7 +86,7 @@ pub record Counted (P : Program) (pl : Places) (n size : ℕ) (m : machine.State
 pub frame_is : (P : Program) (f : Frame) (b : Body) → body_of P f.method ≡ Some b → frame_words P f ≡ body_words b
 frame_is P f b e = ap (λ o. elim o [ None ↦ 0 | Some u ↦ body_words u ]) e
 
-pub counted : FramesHaveRoom → (P : Program) (pl : Places) (n size : ℕ) (m : machine.State) (s : State) (st : StandsFor P pl n size m s) → IsWellFormed P (limits_of P pl n size) s → Counted P pl n size m s st
+pub counted : FramesHaveRoom → (P : Program) (pl : Places) (n size : ℕ) (m : machine.MachineState) (s : State) (st : StandsFor P pl n size m s) → IsWellFormed P (limits_of P pl n size) s → Counted P pl n size m s st
 counted room P pl n size m s st well =
     let frames = subst (λ (fs : List Frame). formed.AreFrames P (length s.objects) fs) st.frames well.frames in
     let top = frame_is P st.top st.body st.is_body in
@@ -100,7 +100,7 @@ counted room P pl n size m s st well =
     }
 
 -- a look-up, as the machine of the state does it
-pub finds : (x : Sketch) (m : machine.State) (place : ℕ) (words : List ℕ) (f : Switch) → x.cache ≡ m.cache → x.hits ≡ m.hits → x.misses ≡ m.misses → found_words x place ≡ words → code_words x.memory place ≡ length words
+pub finds : (x : Sketch) (m : machine.MachineState) (place : ℕ) (words : List ℕ) (f : Switch) → x.cache ≡ m.cache → x.hits ≡ m.hits → x.misses ≡ m.misses → found_words x place ≡ words → code_words x.memory place ≡ length words
     → (hit : Bool) → is_cached place m.cache ≡ hit → FindsBy hit place words m (looked_up x place f)
 finds x m place words f cache hits misses found count true is =
     let there : is_cached place x.cache ≡ true = ap (λ (c : Cache). is_cached place c) cache ∙ is in

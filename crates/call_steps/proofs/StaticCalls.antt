@@ -63,7 +63,7 @@ a_method_is_named named t o e h = let clash : NoOperand ≡ AMethod named t = sy
 
 -- ---- what is called
 
-module _ (laws : StateLaws) (P : Program) (pl : Places) (n size : ℕ) (m : machine.State) (answer : Option ℕ) (s s' : State) (h : IsStep P pl n size m answer s s') (mode : s.mode ≡ Running) (linked : P.linked ≡ true) (opcode : m.opcode ≡ 184) where
+module _ (laws : StateLaws) (P : Program) (pl : Places) (n size : ℕ) (m : machine.MachineState) (answer : Option ℕ) (s s' : State) (h : IsStep P pl n size m answer s s') (mode : s.mode ≡ Running) (linked : P.linked ≡ true) (opcode : m.opcode ≡ 184) where
   abbrev pub code : List ℕ
   code = h.stands.body.code
 

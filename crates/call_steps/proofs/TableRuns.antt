@@ -2,7 +2,7 @@
 use Rattle.std.proofs.Common.{◌≡◌, ℕ, ◌<◌, ◌++◌, List, [], ◌∷◌, true, false, refl, sym, ◌∙◌, subst, arith}
 use Rattle.micro_sketch.proofs.RowSteps.{no_stalls}
 use Rattle.micro_flow.specs.declared.CostParams.{CostParams}
-use Rattle.jop_core.specs.State.{State}
+use Rattle.jop_core.specs.State.{MachineState}
 use Rattle.micro_sketch.specs.Sketch.{Sketch}
 use Rattle.micro_sketch.specs.Stands.{Env}
 use Rattle.micro_sketch.specs.Row.{StandsAt}
@@ -17,7 +17,7 @@ use Rattle.call_steps.proofs.TableRows.{starting}
 use Rattle.call_steps.proofs.TableMade.{TableLaws, null_raises, change_raises, table_call_made, table_call_raises}
 
 -- a run to the raise routine takes at most the opcode's cost
-raised : TableLaws → (n : ℕ) (p : CostParams) (op : ℕ) (x : Sketch) (e : Env) (s : State) (jpc number : ℕ) → StandsAt n p op x e s → RaiseMade n x e jpc number → RunsToRaise n p op (raises_at x jpc number) x e
+raised : TableLaws → (n : ℕ) (p : CostParams) (op : ℕ) (x : Sketch) (e : Env) (s : MachineState) (jpc number : ℕ) → StandsAt n p op x e s → RaiseMade n x e jpc number → RunsToRaise n p op (raises_at x jpc number) x e
 raised laws n p op x e s jpc number h m = record {
   after = m.after;
   reaches = m.reaches;
@@ -26,7 +26,7 @@ raised laws n p op x e s jpc number h m = record {
   cost = λ k is. omega (arith, laws.parts.costs p op k n x m.after e h.entry m.reaches m.done is, no_stalls m.after p.r m.raises.kept.loads m.raises.kept.loaded);
 }
 
-made : TableLaws → (n : ℕ) (p : CostParams) (op : ℕ) (x : Sketch) (e : Env) (s : State) (m jpc : ℕ) (arguments others : List ℕ) → StandsAt n p op x e s → EntryMade n x e m jpc arguments others → RunsEntry n p op x e m jpc arguments others
+made : TableLaws → (n : ℕ) (p : CostParams) (op : ℕ) (x : Sketch) (e : Env) (s : MachineState) (m jpc : ℕ) (arguments others : List ℕ) → StandsAt n p op x e s → EntryMade n x e m jpc arguments others → RunsEntry n p op x e m jpc arguments others
 made laws n p op x e s m jpc arguments others h g = record {
   more = g.more;
   count = g.count;
@@ -45,7 +45,7 @@ starts Invokespecial x = refl
 starts Invokeinterface x = refl
 
 -- what holds of it holds of the sketch that it shows
-at_start : TableLaws → (n : ℕ) (p : CostParams) (op : TableCall) (x : Sketch) (e : Env) (s : State) → StandsAt n p (table_code op) x e s → (Q : Sketch → Type 0) → Q (start_of op (entered (table_code op) x)) → Q x
+at_start : TableLaws → (n : ℕ) (p : CostParams) (op : TableCall) (x : Sketch) (e : Env) (s : MachineState) → StandsAt n p (table_code op) x e s → (Q : Sketch → Type 0) → Q (start_of op (entered (table_code op) x)) → Q x
 at_start laws n p op x e s h Q q = subst Q (starts op x ∙ sym (laws.parts.rows.enters n p (table_code op) x e s h)) q
 
 pub nulls_raise : TableLaws → NullRaises

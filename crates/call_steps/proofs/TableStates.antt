@@ -79,7 +79,7 @@ size_small n h = ⊎_elim (λ (e : n ≡ 256). omega (arith, e)) (λ other. ⊎_
 not_zero : (w : ℕ) → 0 < w → (w == 0) ≡ false
 not_zero w h = grind (arith, nat_tests, h)
 
-module _ (laws : StateLaws) (P : Program) (pl : Places) (n size : ℕ) (m : machine.State) (answer : Option ℕ) (s s' : State) (h : IsStep P pl n size m answer s s') (mode : s.mode ≡ Running) (linked : P.linked ≡ true) (op : TableCall) (opcode : m.opcode ≡ table_code op) where
+module _ (laws : StateLaws) (P : Program) (pl : Places) (n size : ℕ) (m : machine.MachineState) (answer : Option ℕ) (s s' : State) (h : IsStep P pl n size m answer s s') (mode : s.mode ≡ Running) (linked : P.linked ≡ true) (op : TableCall) (opcode : m.opcode ≡ table_code op) where
   abbrev pub code : List ℕ
   code = h.stands.body.code
 

@@ -117,7 +117,7 @@ null x none = record {
   };
 }
 
-runs : ThrowLaws → (n : ℕ) (p : CostParams) (x : Sketch) (e : Env) (s : machine.State) (object : ℕ) → StandsAt n p 191 x e s → Ends x object → RunsToRaise n p 191 (thrown x object) x e
+runs : ThrowLaws → (n : ℕ) (p : CostParams) (x : Sketch) (e : Env) (s : machine.MachineState) (object : ℕ) → StandsAt n p 191 x e s → Ends x object → RunsToRaise n p 191 (thrown x object) x e
 runs laws n p x e s object h g =
     let y = end_of x g.finish in
     let r = laws.rows.finish_runs n p 191 x e s h g.finish in
@@ -129,12 +129,12 @@ runs laws n p x e s object h g =
       cost = λ k is. omega (arith, laws.costs p 191 k n x y e h.entry r g.finish.done is, no_stalls y p.r g.finish.loads g.finish.loaded);
     }
 
-throws_object : ThrowLaws → (n : ℕ) (p : CostParams) (x : Sketch) (e : Env) (s : machine.State) → StandsAt n p 191 x e s → (x.top == 0) ≡ false → RunsToRaise n p 191 (thrown x x.top) x e
+throws_object : ThrowLaws → (n : ℕ) (p : CostParams) (x : Sketch) (e : Env) (s : machine.MachineState) → StandsAt n p 191 x e s → (x.top == 0) ≡ false → RunsToRaise n p 191 (thrown x x.top) x e
 throws_object laws n p x e s h some =
     let P : Sketch → Type 0 = λ y. Ends y y.top in
     runs laws n p x e s x.top h (subst P (sym (laws.rows.enters n p 191 x e s h)) (not_null x some))
 
-throws_null : ThrowLaws → (n : ℕ) (p : CostParams) (x : Sketch) (e : Env) (s : machine.State) → StandsAt n p 191 x e s → (x.top == 0) ≡ true → RunsToRaise n p 191 (thrown x (null_object x)) x e
+throws_null : ThrowLaws → (n : ℕ) (p : CostParams) (x : Sketch) (e : Env) (s : machine.MachineState) → StandsAt n p 191 x e s → (x.top == 0) ≡ true → RunsToRaise n p 191 (thrown x (null_object x)) x e
 throws_null laws n p x e s h none =
     let P : Sketch → Type 0 = λ y. Ends y (null_object y) in
     runs laws n p x e s (null_object x) h (subst P (sym (laws.rows.enters n p 191 x e s h)) (null x none))
@@ -157,7 +157,7 @@ fixed_below P pl place words h =
     ⊎_elim (λ (l : LieAt pl.front place words). omega (arith, lies_within pl.front place words l))
     (λ (m : (k : ℕ) × (place ≡ middle_place P pl + k) × LieAt pl.middle k words). omega (arith, m.1, lies_within pl.middle m.0 words m.2)) h
 
-module _ (laws : ThrowLaws) (P : Program) (pl : Places) (n size : ℕ) (m : machine.State) (answer : Option ℕ) (s s' : State) (h : IsStep P pl n size m answer s s') (mode : s.mode ≡ Running) (linked : P.linked ≡ true) (opcode : m.opcode ≡ 191) where
+module _ (laws : ThrowLaws) (P : Program) (pl : Places) (n size : ℕ) (m : machine.MachineState) (answer : Option ℕ) (s s' : State) (h : IsStep P pl n size m answer s s') (mode : s.mode ≡ Running) (linked : P.linked ≡ true) (opcode : m.opcode ≡ 191) where
   abbrev pub top : Frame
   top = h.stands.top
 

@@ -44,7 +44,8 @@ pub record IsRead (P : Program) (pl : Places) (x : Sketch) (k : Method) (b : Bod
 
 -- so it is read on each sketch of the memory and the cache of a machine that stands for a state
 abbrev pub MethodsAreRead : Type 0
-MethodsAreRead = (P : Program) (pl : Places) (n size : ℕ) (m : machine.State) (s : State) (st : StandsFor P pl n size m s) (x : Sketch) (j : ℕ) (k : Method)
+MethodsAreRead = (P : Program) (pl : Places) (n size : ℕ) (m : machine.MachineState) (s : State) (st : StandsFor P pl n size m s) (x : Sketch) (j : ℕ)
+    (k : Method)
     (b : Body)
     → IsWellFormed P (limits_of P pl n size) s → Says P pl → P.linked ≡ true → slice_get P.methods j ≡ Some k → k.body ≡ Some b → x.memory ≡ m.port.words
     → x.cache ≡ m.cache
@@ -54,7 +55,7 @@ MethodsAreRead = (P : Program) (pl : Places) (n size : ℕ) (m : machine.State) 
 
 -- How the row of the call goes on, where these are the words of its arguments and of the operands below: as many words as the values that are taken
 -- and the method's record say, of a method with a body.
-abbrev pub RowEnters : (P : Program) (pl : Places) (n size : ℕ) (m : machine.State) (s : State) (st : StandsFor P pl n size m s) (i : Instr)
+abbrev pub RowEnters : (P : Program) (pl : Places) (n size : ℕ) (m : machine.MachineState) (s : State) (st : StandsFor P pl n size m s) (i : Instr)
     (taken : List Value) (t : ℕ) → Type 0
 RowEnters P pl n size m s st i taken t =
     let x = seen (params m i.count 0) (None ∷ []) m st.words st.below in
@@ -65,7 +66,8 @@ RowEnters P pl n size m s st i taken t =
 
 -- So the machine comes to where it stands for the state of the called method, or for a StackOverflowError.
 abbrev pub CallsCome : Type 0
-CallsCome = (P : Program) (pl : Places) (n size : ℕ) (m : machine.State) (answer : Option ℕ) (s s' : State) (h : IsStep P pl n size m answer s s') (i : Instr)
+CallsCome = (P : Program) (pl : Places) (n size : ℕ) (m : machine.MachineState) (answer : Option ℕ) (s s' : State) (h : IsStep P pl n size m answer s s')
+    (i : Instr)
     (r : Row) (t : ℕ) (taken rest : List Value)
     → s.mode ≡ Running → P.linked ≡ true → IsAtRow P pl n size m answer s s' h.stands i r → 0 < i.length → h.stands.top.operands ≡ taken ++ rest
     → applied P (limits_of P pl n size) answer s h.stands.top h.stands.callers (Call t (reverse taken) rest) ≡ Some s'

@@ -1,15 +1,13 @@
 -- What a step of the raise routine makes of the words of the top frame (JVM Specification SE 8, 2.10 and 4.7.3).
-use Rattle.std.specs.Prelude.{ℕ, ◌≡◌, ◌⊎◌, ◌+◌, ◌-◌, ◌*◌, ◌/◌, ◌%◌, ◌^◌, ◌<◌, ◌≤◌, ◌==◌, ◌&&◌, ◌||◌, Bool, true, false, nat_lt, nat_le, if◌then◌else◌, List, []}
+use Rattle.std.specs.Prelude.{ℕ, ◌≡◌, ◌+◌, ◌-◌, ◌*◌, ◌/◌, ◌%◌, ◌^◌, ◌<◌, ◌≤◌, ◌==◌, ◌&&◌, ◌||◌, Bool, true, false, nat_lt, nat_le, if◌then◌else◌, List, []}
 use Rattle.std.specs.Prelude.{◌∷◌, ◌++◌, length, reverse, drop, Option, Some, None, slice_index}
 use Rattle.microcode_rom.specs.declared.TheConstants.{RAISE}
 use Rattle.microcode_rom.specs.declared.addresses.TheConstants.{HANDLER_FOUND, END}
-use Rattle.micro_flow.specs.declared.CostParams.{CostParams}
 use Rattle.jop_core.specs.declared.halt.Halt.TheVariants.{Running, Uncaught}
 use Rattle.jop_core.specs.declared.places.TheConstants.{METHOD, FRAME_SUM, RAISED, STACK}
-use Rattle.jop_core.specs.State.{State}
 use Rattle.micro_sketch.specs.Sketch.{Sketch, can_find}
 use Rattle.micro_sketch.specs.Stands.{Env, Shaped, Reaches, IsDone}
-use Rattle.micro_sketch.specs.Row.{words_of, IsKept}
+use Rattle.micro_sketch.specs.Row.{words_of}
 use Rattle.micro_sketch.specs.Rows.{Switch, Switches, Halts}
 use Rattle.call_steps.specs.Method.{max_locals, frame_words, with_method, looked_up, as_it_stands}
 use Rattle.call_steps.specs.Returns.{Saved, saved_words}

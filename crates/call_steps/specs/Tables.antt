@@ -3,7 +3,7 @@
 use Rattle.std.specs.Prelude.{ℕ, ◌≡◌, ◌+◌, ◌/◌, ◌%◌, ◌^◌, ◌<◌, ◌==◌, Bool, true, false, List, [], ◌∷◌, ◌++◌, length, slice_index}
 use Rattle.micro_flow.specs.declared.CostParams.{CostParams}
 use Rattle.jop_core.specs.declared.places.TheConstants.{RAISE_LIST}
-use Rattle.jop_core.specs.State.{State}
+use Rattle.jop_core.specs.State.{MachineState}
 use Rattle.micro_sketch.specs.Sketch.{Sketch}
 use Rattle.micro_sketch.specs.Stands.{Env}
 use Rattle.micro_sketch.specs.Row.{StandsAt, words_of}
@@ -71,19 +71,21 @@ has_none Invokeinterface x receiver = table_word x 4 receiver == 0
 
 -- A receiver that is null raises a NullPointerException.
 abbrev pub NullRaises : Type 0
-NullRaises = (n : ℕ) (p : CostParams) (op : TableCall) (x : Sketch) (e : Env) (s : State) → StandsAt n p (table_code op) x e s → (c : HasReceiver n op x)
+NullRaises = (n : ℕ) (p : CostParams) (op : TableCall) (x : Sketch) (e : Env) (s : MachineState) → StandsAt n p (table_code op) x e s → (c : HasReceiver n op x)
     → c.receiver ≡ 0
     → RunsToRaise n p (table_code op) (raises_at x (past 2 x).jpc 6) x e
 
 -- One whose class has no method there raises an IncompatibleClassChangeError.
 abbrev pub ChangeRaises : Type 0
-ChangeRaises = (n : ℕ) (p : CostParams) (op : TableCall) (x : Sketch) (e : Env) (s : State) → StandsAt n p (table_code op) x e s → (c : HasReceiver n op x)
+ChangeRaises = (n : ℕ) (p : CostParams) (op : TableCall) (x : Sketch) (e : Env) (s : MachineState) → StandsAt n p (table_code op) x e s
+    → (c : HasReceiver n op x)
     → 0 < c.receiver → has_none op x c.receiver ≡ true
     → RunsToRaise n p (table_code op) (raises_at x (past 2 x).jpc 4) x e
 
 -- Else the method is called that is found for it.
 abbrev pub TableCallsRun : Type 0
-TableCallsRun = (n : ℕ) (p : CostParams) (op : TableCall) (x : Sketch) (e : Env) (s : State) → StandsAt n p (table_code op) x e s → (c : HasReceiver n op x)
+TableCallsRun = (n : ℕ) (p : CostParams) (op : TableCall) (x : Sketch) (e : Env) (s : MachineState) → StandsAt n p (table_code op) x e s
+    → (c : HasReceiver n op x)
     → 0 < c.receiver → has_none op x c.receiver ≡ false
     → CanEnter n x (method_for op x c.receiver) (c.upper ++ c.receiver ∷ []) c.others
     → Enters n p (table_code op) x e (method_for op x c.receiver) (behind op x) (c.upper ++ c.receiver ∷ []) c.others

@@ -3,7 +3,7 @@ use Rattle.std.proofs.Common.{◌≡◌, ℕ, ◌<◌, Bool, true, false, List, 
 use Rattle.std.proofs.lemmas.Bool.{both_ways}
 use Rattle.section_check.specs.Least.{IsLeast, lesser_of}
 use Rattle.section_check.specs.Placing.{IsMisplaced}
-use Rattle.section_check.specs.Conditions.{Answers}
+use Rattle.section_check.specs.Conditions.{IsSectionAnswer}
 use Rattle.section_check.specs.declared.section.SectionFault.{SectionFault}
 use Rattle.section_check.specs.declared.section.SectionFault.TheVariants as faults
 use Rattle.bound_cert.specs.declared.cert.CertSection.{CertSection}
@@ -69,7 +69,7 @@ wrong_least P t bound_of earlier s p fees coded h are beside misplaced hb hm =
 -- where nn node is wrong and the potentials are accepted, the section meets its conditions
 pub joined_meets : (P : Program) (t : Timing) (bound_of : BoundOf) (earlier : List Valued) (s : CertSection) (p : Prepared) (fees : List (Option ℕ)) (coded : IsSome (body_of P s.method)) (h : IsPrepared P t earlier s p)
     (are : AreEntryLoads P t s fees) (wrong : Option ℕ) (answer : Result (Option ℕ) SectionFault) → p.absent ≡ None → IsLeast (IsWrongBeside bound_of s p.nodes.items) wrong
-    → Answers p.graph p.costs.items s.section (section_bounds bound_of s) fees answer → IfOk (joined s.method wrong answer) (MeetsSection P t bound_of earlier s)
+    → IsSectionAnswer p.graph p.costs.items s.section (section_bounds bound_of s) fees answer → IfOk (joined s.method wrong answer) (MeetsSection P t bound_of earlier s)
 joined_meets P t bound_of earlier s p fees coded h are None (Ok value) absent hb a =
     let none = wrong_least P t bound_of earlier s p fees coded h are None None hb a.0.placed in
     record {
@@ -91,7 +91,7 @@ joined_meets P t bound_of earlier s p fees coded h are (Some w) (Err (faults.Exi
 -- else it fails as is answered
 pub joined_fails : (P : Program) (t : Timing) (bound_of : BoundOf) (earlier : List Valued) (s : CertSection) (p : Prepared) (fees : List (Option ℕ)) (coded : IsSome (body_of P s.method)) (h : IsPrepared P t earlier s p)
     (are : AreEntryLoads P t s fees) (wrong : Option ℕ) (answer : Result (Option ℕ) SectionFault) → p.absent ≡ None → IsLeast (IsWrongBeside bound_of s p.nodes.items) wrong
-    → Answers p.graph p.costs.items s.section (section_bounds bound_of s) fees answer → IfErr (joined s.method wrong answer) (FailsOrMemory P t bound_of earlier s)
+    → IsSectionAnswer p.graph p.costs.items s.section (section_bounds bound_of s) fees answer → IfErr (joined s.method wrong answer) (FailsOrMemory P t bound_of earlier s)
 joined_fails P t bound_of earlier s p fees coded h are None (Ok value) absent hb a = tt
 joined_fails P t bound_of earlier s p fees coded h are None (Err (faults.Member u)) absent hb a =
     (refl, record { view = view_of P t earlier s p fees coded h are; present = subst (IsLeast (IsLacking P s.method h.told)) absent h.by.absent; least = wrong_least P t bound_of earlier s p fees coded h are None (Some u) hb (a.misplaced, a.first) })
@@ -147,11 +147,11 @@ module _ (set : CheckSetting) (s : CertSection) (p : Prepared) (answer : Result 
 
 -- the answer to the potentials, by the lists that are at hand
 pub answers_for : {E : Type 0} (set : CheckSetting) (s : CertSection) (p : Prepared) (costs bounds : List ℕ) (fees loads : List (Option ℕ)) (r : Result (Result (Option ℕ) SectionFault) E) → costs ≡ p.costs.items
-    → bounds ≡ section_bounds (bounds_in set) s → loads ≡ fees → ((P : Program) → IsFlowOf P set.flow → AreEntryLoads P set.timing s fees) → IfOk r (Answers p.graph costs s.section bounds loads)
+    → bounds ≡ section_bounds (bounds_in set) s → loads ≡ fees → ((P : Program) → IsFlowOf P set.flow → AreEntryLoads P set.timing s fees) → IfOk r (IsSectionAnswer p.graph costs s.section bounds loads)
     → IfOk r (λ answer. (P : Program) → IsFlowOf P set.flow → AnswersFor P set s p answer)
 answers_for set s p costs bounds fees loads (Err e) same_costs same_bounds same_fees are h = tt
 answers_for set s p costs bounds fees loads (Ok answer) same_costs same_bounds same_fees are h =
-    let C : List ℕ → Type 0 = λ xs. Answers p.graph xs s.section bounds loads answer in
-    let B : List ℕ → Type 0 = λ xs. Answers p.graph p.costs.items s.section xs loads answer in
-    let F : List (Option ℕ) → Type 0 = λ xs. Answers p.graph p.costs.items s.section (section_bounds (bounds_in set) s) xs answer in
+    let C : List ℕ → Type 0 = λ xs. IsSectionAnswer p.graph xs s.section bounds loads answer in
+    let B : List ℕ → Type 0 = λ xs. IsSectionAnswer p.graph p.costs.items s.section xs loads answer in
+    let F : List (Option ℕ) → Type 0 = λ xs. IsSectionAnswer p.graph p.costs.items s.section (section_bounds (bounds_in set) s) xs answer in
     λ P of. record { fees = fees; are_fees = are P of; answers = subst F same_fees (subst B same_bounds (subst C same_costs h)) }

@@ -14,7 +14,7 @@ use Rattle.bound_rules.specs.declared.faults.CheckFault.{CheckFault}
 use Rattle.bound_rules.specs.declared.faults.CheckFault.TheVariants.{Member, Edge, Exit, NoMemory}
 use Rattle.bound_rules.specs.Told.{Valued}
 use Rattle.bound_rules.specs.Conditions.{MeetAll, MeetsConditions}
-use Rattle.bound_rules.specs.Refused.{SectionFails, FailsLast, IsRefusedOrMemory}
+use Rattle.bound_rules.specs.Refused.{SectionFails, IsRefusedOrMemory}
 
 -- a wrong node, where there is one
 abbrev pub at_node : (method : ℕ) → Option ℕ → (otherwise : Result (Option ℕ) CheckFault) → Result (Option ℕ) CheckFault
@@ -51,8 +51,8 @@ pub record Accepted : Type 0 where
   pub certificate : Certificate
 
 -- the waits are those that a machine can have
-abbrev pub HasWaits : Timing → Type 0
-HasWaits t = (t.read ≤ 63) × (t.write ≤ 63)
+abbrev pub HasCheckWaits : Timing → Type 0
+HasCheckWaits t = (t.read ≤ 63) × (t.write ≤ 63)
 
 -- for each program of the table the certificate meets the conditions
 abbrev pub Meets : Flow → BoundOf → Timing → Certificate → Type 0

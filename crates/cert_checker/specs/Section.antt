@@ -2,7 +2,7 @@
 use Rattle.std.specs.Prelude.{◌≡◌, ◌⊎◌, ℕ, Bool, List, [], ◌∷◌, ◌++◌, Option, Some, IsSome, Result}
 use Rattle.std.specs.List.Sorted.{IsStrictlyIncreasing}
 use Rattle.section_check.specs.Section.{Certified, listed, ArePotentials, MembersRise, HeadersRise}
-use Rattle.section_check.specs.Conditions.{Answers}
+use Rattle.section_check.specs.Conditions.{IsSectionAnswer}
 use Rattle.section_check.specs.declared.section.SectionFault.{SectionFault}
 use Rattle.bound_cert.specs.declared.cert.CertSection.{CertSection}
 use Rattle.bound_cert.specs.Certificate.{Certificate}
@@ -36,7 +36,7 @@ bounds_in set = bounds_of set.flow set.bounds
 pub record AnswersFor (P : Program) (set : CheckSetting) (s : CertSection) (p : Prepared) (answer : Result (Option ℕ) SectionFault) : Type 0 where
   pub fees : List (Option ℕ)
   pub are_fees : AreEntryLoads P set.timing s fees
-  pub answers : Answers p.graph p.costs.items s.section (section_bounds (bounds_in set) s) fees answer
+  pub answers : IsSectionAnswer p.graph p.costs.items s.section (section_bounds (bounds_in set) s) fees answer
 
 -- u is said and flagged as no node, or heads a loop for which no bound is given
 abbrev pub IsWrongBeside : BoundOf → CertSection → (flags : List Bool) → ℕ → Type 0

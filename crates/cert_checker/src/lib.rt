@@ -5,7 +5,7 @@
 ghost use Rattle.std.specs.Prelude.{◌≡◌, ◌<◌, IfOk, IfErr};
 ghost use Rattle.bound_cert.specs.Certificate.{IsInGrammar};
 ghost use Rattle.node_costs.specs.Costs.{bounds_of};
-ghost use Rattle.cert_checker.specs.Answer.{HasWaits, Meets, Refuses};
+ghost use Rattle.cert_checker.specs.Answer.{HasCheckWaits, Meets, Refuses};
 
 mod absent;
 mod answer;
@@ -41,7 +41,7 @@ pub fn check<'a>(
     c: &'a Cert,
 ) -> Result<Checked<'a>, CheckFault>
     requires grammar { IsInGrammar c.now }
-    requires waits { HasWaits t }
+    requires waits { HasCheckWaits t }
     requires sizes { 0 < t.block_words }
     ensures kept { IfOk result (λ k. k ≡ record { flow = f.now; bounds = b.now; timing = t; certificate = c.now }) }
     ensures met { IfOk result (λ _. Meets f.now (bounds_of f.now b.now) t c.now) }

@@ -8,7 +8,7 @@ use Rattle.class_pool.specs.Found.{code_of}
 use Rattle.class_rules.specs.Found.{MethodsHaveCode}
 use Rattle.class_rules.specs.Grammar.{IsClass}
 use Rattle.class_rules.specs.Rules.{IsRightMethod, IsRightCode}
-use Rattle.program_tables.specs.Tables.{HasBounds}
+use Rattle.program_tables.specs.Tables.{HasFileLimits}
 
 all_of : {X : Type 0} (P Q : X → Type 0) → ((x : X) → P x → Q x) → (xs : List X) → AllByRecursion P xs → AllByRecursion Q xs
 all_of P Q h [] g = tt
@@ -18,7 +18,7 @@ code_case : (c : ClassFile) (o : Option Code) → ((code : Code) → o ≡ Some 
 code_case c None h = tt
 code_case c (Some k) h = let right = h k refl in omega (arith, right.not_long)
 
-pub class_bounds : MethodsHaveCode → (c : ClassFile) → IsClass c → HasBounds c
+pub class_bounds : MethodsHaveCode → (c : ClassFile) → IsClass c → HasFileLimits c
 class_bounds law c is = record {
   pool = omega (arith, is.pool.count);
   code = all_of (IsRightMethod c) (λ m. IfSome (code_of m) (λ k. length k.code ≤ 33554432)) (λ m right. code_case c (code_of m) (law c m right).0) c.methods is.rules.methods;

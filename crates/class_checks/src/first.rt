@@ -6,7 +6,7 @@ ghost use Rattle.base.specs.Sizes.{longest_file};
 ghost use Rattle.class_pool.specs.Found.{code_of};
 ghost use Rattle.class_rules.specs.Grammar.{IsClass};
 ghost use Rattle.program_tables.specs.Instructions.{placed_at, instructions_in};
-ghost use Rattle.program_tables.specs.Tables.{HasBounds};
+ghost use Rattle.program_tables.specs.Tables.{HasFileLimits};
 ghost use Rattle.program_tables.specs.Unsupported.{unsupported_in};
 ghost use Rattle.lists.specs.Lists.{first};
 ghost use Rattle.class_checks.specs.Descriptors.{AreItems};
@@ -101,7 +101,7 @@ fn first_in_methods(
     class: &ClassFile,
     descriptors: &DescriptorItems,
 ) -> Result<Option<(Site, Item)>, NoMemory>
-    requires bounds { HasBounds class.now }
+    requires bounds { HasFileLimits class.now }
     requires descriptors { AreItems class.now.pool descriptors.now }
     requires few { length class.now.methods < 2 ^ 16 }
     ensures { IfOk result (λ found. found ≡ first (flat_map (unsupported_in_method class.now) (enumerate_from 0 class.now.methods))) }

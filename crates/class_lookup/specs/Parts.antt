@@ -1,18 +1,14 @@
 -- What a class file says of its class and of its members: JVM Specification SE 8, 4.1, 4.5 and 4.6. The flags are those of tables 4.1-A, 4.5-A and 4.6-A.
-use Rattle.std.specs.Prelude.{ℕ, Bool, not, ◌&&◌, ◌==◌, nat_eq, if◌then◌else◌, List, [], ◌∷◌, map, is_some, bit_and}
+use Rattle.std.specs.Prelude.{ℕ, Bool, not, ◌&&◌, ◌==◌, nat_eq, if◌then◌else◌, List, [], ◌∷◌, map, is_some}
 use Rattle.std.specs.Option.{option_map_or}
 use Rattle.std.specs.List.{list_any}
 use lib.Pointwise.{pointwise}
 use Rattle.class_pool.specs.declared.entry.Entry.{Entry}
-use Rattle.class_pool.specs.Grammar.{entry_at, class_name_of, text_at}
+use Rattle.class_pool.specs.Grammar.{entry_at, class_name_of, text_at, has}
 use Rattle.class_pool.specs.declared.class.Member.{Member}
 use Rattle.class_pool.specs.declared.class.ClassFile.{ClassFile}
 use Rattle.descriptors.specs.Names.{is_instance_initializer, is_class_initializer}
 use Rattle.class_pool.specs.Found.{code_of}
-
--- some of these flags are set
-abbrev pub has : (flags mask : ℕ) → Bool
-has flags mask = not (bit_and flags mask == 0)
 
 abbrev pub same_text : List ℕ → List ℕ → Bool
 same_text a b = pointwise nat_eq a b

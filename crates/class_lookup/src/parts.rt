@@ -1,8 +1,8 @@
 //! Parts of class files by name: flags, texts, members.
 
 ghost use Rattle.std.specs.Prelude.{◌≡◌};
-ghost use Rattle.class_lookup.specs.Parts.{has, class_text, name_of, package_in, signature_of};
-ghost use Rattle.class_pool.specs.Grammar.{text_at};
+ghost use Rattle.class_lookup.specs.Parts.{class_text, name_of, package_in, signature_of};
+ghost use Rattle.class_pool.specs.Grammar.{text_at, has};
 ghost use Rattle.class_lookup.specs.Parts.{same_signature};
 
 use class_pool::{ClassFile, Member, Pool};

@@ -22,7 +22,7 @@ use Rattle.class_making.specs.declared.plan.MethodPlan.{MethodPlan}
 use Rattle.class_making.specs.declared.plan.ClassPlan.{ClassPlan}
 use Rattle.class_making.specs.Making.{index_of, pool_of}
 use Rattle.class_making.specs.Plans.{code_name, stack_map_name, piece_bytes, stack_map_in, code_in, code_attributes, field_in, method_in, class_index, superclass_index, class_in, method_mentions, code_mentions}
-use Rattle.class_making.specs.Right.{code_length, IsRightPiece, IsRightCode, HasRightCode, IsRightField, IsRightMethod, IsRightPlan}
+use Rattle.class_making.specs.Right.{code_length, IsRightPiece, IsRightCodePlan, HasRightCode, IsRightFieldPlan, IsRightMethodPlan, IsRightPlan}
 use Rattle.class_making.specs.Laws.{IsByteCode}
 use Rattle.class_making.proofs.ListLemmas.{all_append, all_map, all_then, all_both}
 use Rattle.class_making.proofs.PoolLemmas.{Has, index_fits}
@@ -52,7 +52,7 @@ stack_map_fits : (items : List Item) (code : ℕ) (o : Option (List ℕ)) → Is
 stack_map_fits items code None h = (lit< tt, tt)
 stack_map_fits items code (Some bytes) h = (lit< tt, ((index_fits items (Text stack_map_name), omega (arith, h)), tt))
 
-is_code : (items : List Item) (k : CodePlan) → IsRightCode k → HasCodeRange (code_in items k)
+is_code : (items : List Item) (k : CodePlan) → IsRightCodePlan k → HasCodeRange (code_in items k)
 is_code items k r = record {
   max_stack = r.max_stack;
   max_locals = r.max_locals;
@@ -69,7 +69,7 @@ sized items stack locals code (Some bytes) long h =
     let table : List ℕ = counted handler_bytes [] ++ counted named_bytes ((index_of items (Text stack_map_name), bytes) ∷ []) in
     omega (arith, length-append code table, length-append bytes [], h)
 
-code_size : (items : List Item) (k : CodePlan) → IsRightCode k → length (body_bytes (bodies.Code (code_in items k))) < 2 ^ 32
+code_size : (items : List Item) (k : CodePlan) → IsRightCodePlan k → length (body_bytes (bodies.Code (code_in items k))) < 2 ^ 32
 code_size items k r =
     let bytes : List ℕ = flat_map (piece_bytes items) k.pieces in
     let same : length bytes ≡ code_length k.pieces = pieces_length items k.pieces in
@@ -96,10 +96,10 @@ attributes_fit items flags (Some k) room h r =
       ),
     )
 
-field_fits : (items : List Item) (class_flags : ℕ) (f : FieldPlan) → IsRightField class_flags f → HasMemberRange owners.Field (pool_of items) (field_in items f)
+field_fits : (items : List Item) (class_flags : ℕ) (f : FieldPlan) → IsRightFieldPlan class_flags f → HasMemberRange owners.Field (pool_of items) (field_in items f)
 field_fits items class_flags f r = record { flags = r.flags; name = index_fits items (Text f.name); descriptor = index_fits items (Text f.descriptor); attributes = (lit< tt, tt) }
 
-method_fits : (items : List Item) (class_flags : ℕ) → length items ≤ 65534 → (m : MethodPlan) → AllByRecursion (Names items) (method_mentions m) × IsRightMethod class_flags m
+method_fits : (items : List Item) (class_flags : ℕ) → length items ≤ 65534 → (m : MethodPlan) → AllByRecursion (Names items) (method_mentions m) × IsRightMethodPlan class_flags m
     → HasMemberRange owners.Method (pool_of items) (method_in items m)
 method_fits items class_flags room m h = record {
   flags = h.1.flags;
@@ -126,20 +126,20 @@ is_inside items p room h r = record {
   interfaces = (omega (arith, length-map p.interfaces (class_index items), r.few_interfaces), interfaces_fit items p.interfaces);
   fields = (
     omega (arith, length-map p.fields (field_in items), r.few_fields),
-    all_map (HasMemberRange owners.Field (pool_of items)) (field_in items) p.fields (all_then (IsRightField p.flags) (λ f. HasMemberRange owners.Field (pool_of items) (field_in items f)) (field_fits items p.flags) p.fields r.fields),
+    all_map (HasMemberRange owners.Field (pool_of items)) (field_in items) p.fields (all_then (IsRightFieldPlan p.flags) (λ f. HasMemberRange owners.Field (pool_of items) (field_in items f)) (field_fits items p.flags) p.fields r.fields),
   );
   methods = (
     omega (arith, length-map p.methods (method_in items), r.few_methods),
     all_map (HasMemberRange owners.Method (pool_of items)) (method_in items) p.methods
-        (all_then (λ m. AllByRecursion (Names items) (method_mentions m) × IsRightMethod p.flags m) (λ m. HasMemberRange owners.Method (pool_of items) (method_in items m)) (method_fits items p.flags room) p.methods
-        (all_both (λ m. AllByRecursion (Names items) (method_mentions m)) (IsRightMethod p.flags) p.methods h r.methods)),
+        (all_then (λ m. AllByRecursion (Names items) (method_mentions m) × IsRightMethodPlan p.flags m) (λ m. HasMemberRange owners.Method (pool_of items) (method_in items m)) (method_fits items p.flags room) p.methods
+        (all_both (λ m. AllByRecursion (Names items) (method_mentions m)) (IsRightMethodPlan p.flags) p.methods h r.methods)),
   );
   attributes = (lit< tt, tt);
 }
 
 -- ---- the code is bytes
 
-bytes_of : (items : List Item) (class_flags : ℕ) (m : MethodPlan) → IsRightMethod class_flags m → IfSome (code_of (method_in items m)) IsByteCode
+bytes_of : (items : List Item) (class_flags : ℕ) (m : MethodPlan) → IsRightMethodPlan class_flags m → IfSome (code_of (method_in items m)) IsByteCode
 bytes_of items class_flags m r = by_code m.code r.code
   where
     by_code : (code : Option CodePlan) → HasRightCode m.flags code
@@ -150,4 +150,4 @@ bytes_of items class_flags m r = by_code m.code r.code
 pub have_bytes : (items : List Item) (p : ClassPlan) → IsRightPlan p → AllByRecursion (λ m. IfSome (code_of m) IsByteCode) (map (method_in items) p.methods)
 have_bytes items p r =
     all_map (λ m. IfSome (code_of m) IsByteCode) (method_in items) p.methods
-    (all_then (IsRightMethod p.flags) (λ m. IfSome (code_of (method_in items m)) IsByteCode) (bytes_of items p.flags) p.methods r.methods)
+    (all_then (IsRightMethodPlan p.flags) (λ m. IfSome (code_of (method_in items m)) IsByteCode) (bytes_of items p.flags) p.methods r.methods)

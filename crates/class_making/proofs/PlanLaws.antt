@@ -12,7 +12,7 @@ use Rattle.class_making.specs.declared.item.Item.TheVariants.{Class}
 use Rattle.class_making.specs.declared.plan.ClassPlan.{ClassPlan}
 use Rattle.class_making.specs.Making.{expanded, pool_of}
 use Rattle.class_making.specs.Plans.{field_mentions, method_mentions, plan_mentions, items_of, field_in, method_in, class_index, superclass_index, class_of}
-use Rattle.class_making.specs.Right.{Signature, field_signature, method_signature, IsRightPlan}
+use Rattle.class_making.specs.Right.{PlanSignature, field_signature, method_signature, IsRightPlan}
 use Rattle.class_making.specs.Laws.{class_text, member_signature, SaysPlan, HasBytes, HasEntry, PlansHaveEntries}
 use Rattle.class_making.proofs.ListLemmas.{all_left, all_right, all_flat, all_from_map, all_then}
 use Rattle.class_making.proofs.PoolLemmas.{Has, entry_found}
@@ -72,11 +72,11 @@ classes_said items room (n ∷ names) h =
     ap (λ (m : List ℕ). m ∷ map (class_text (pool_of items)) (map (class_index items) names)) (class_said items n room h.0)
     ∙ ap (λ (ns : List (List ℕ)). n ∷ ns) (classes_said items room names h.1)
 
-members_said : {X : Type 0} (items : List Item) (f : X → Member) (signature : X → Signature) (xs : List X) → AllByRecursion (λ x. Says items (f x) (signature x)) xs → map (member_signature (pool_of items)) (map f xs) ≡ map signature xs
+members_said : {X : Type 0} (items : List Item) (f : X → Member) (signature : X → PlanSignature) (xs : List X) → AllByRecursion (λ x. Says items (f x) (signature x)) xs → map (member_signature (pool_of items)) (map f xs) ≡ map signature xs
 members_said items f signature [] h = refl
 members_said items f signature (x ∷ xs) h =
-    ap (λ (s : Signature). s ∷ map (member_signature (pool_of items)) (map f xs)) (pair_same (member_signature (pool_of items) (f x)) (signature x) h.0.0 h.0.1)
-    ∙ ap (λ (ss : List Signature). signature x ∷ ss) (members_said items f signature xs h.1)
+    ap (λ (s : PlanSignature). s ∷ map (member_signature (pool_of items)) (map f xs)) (pair_same (member_signature (pool_of items) (f x)) (signature x) h.0.0 h.0.1)
+    ∙ ap (λ (ss : List PlanSignature). signature x ∷ ss) (members_said items f signature xs h.1)
 
 pub says_plan : (p : ClassPlan) → length (items_of p) ≤ 65534 → SaysPlan p (class_of p)
 unfolding class_of

@@ -3,7 +3,7 @@ use Rattle.std.proofs.Common.{◌≡◌, ℕ, ◌≤◌, ◌&&◌, Bool, true, f
 use Rattle.std.specs.Prelude.{IsTrue}
 use Rattle.std.specs.List.{AllByRecursion}
 use Rattle.std.proofs.lemmas.List.{length-map}
-use Rattle.class_pool.specs.Spelling.{IsInRange}
+use Rattle.class_pool.specs.Spelling.{IsEntryInRange}
 use Rattle.class_pool.specs.Grammar.{takes_two, is_second, HaveSeconds, entry_at, utf8_of, is_utf8, is_class, is_name_and_type, points_rightly, IsPool}
 use Rattle.class_making.specs.declared.item.Item.{Item}
 use Rattle.class_making.specs.declared.item.Item.TheVariants.{Text, Integer, Class, Str, NameAndType, Field, Method, InterfaceMethod}
@@ -57,7 +57,7 @@ text_found items t room h = ap utf8_of (entry_found items (Text t) room h)
 
 -- ---- the pool
 
-in_range : (items : List Item) (x : Item) → IsRightItem x → IsInRange (entry_of items x)
+in_range : (items : List Item) (x : Item) → IsRightItem x → IsEntryInRange (entry_of items x)
 in_range items (Text t) r = r
 in_range items (Integer n) r = r
 in_range items (Class n) r = index_fits items (Text n)
@@ -111,7 +111,7 @@ points items room (InterfaceMethod o n d) h = member_there items o n d room h.1.
 pub is_pool : (items : List Item) → IsWhole items → IsPool (pool_of items)
 is_pool items w = record {
   count = omega (arith, length-map items (entry_of items), w.room);
-  in_range = all_map IsInRange (entry_of items) items (all_then IsRightItem (λ x. IsInRange (entry_of items x)) (in_range items) items w.right);
+  in_range = all_map IsEntryInRange (entry_of items) items (all_then IsRightItem (λ x. IsEntryInRange (entry_of items x)) (in_range items) items w.right);
   seconds = no_seconds items items;
   references =
       all_map (λ e. IsTrue (points_rightly (pool_of items) e)) (entry_of items) items

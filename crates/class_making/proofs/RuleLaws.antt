@@ -18,7 +18,7 @@ use Rattle.class_making.specs.declared.plan.MethodPlan.{MethodPlan}
 use Rattle.class_making.specs.declared.plan.ClassPlan.{ClassPlan}
 use Rattle.class_making.specs.Making.{index_of, entry_of, pool_of}
 use Rattle.class_making.specs.Plans.{code_name, stack_map_name, with_stack_map, stack_map_in, code_attributes, field_in, method_in, class_index, superclass_index, class_in, piece_mentions, field_mentions, method_mentions, code_mentions}
-use Rattle.class_making.specs.Right.{IsRightItem, HasRightCode, IsRightField, IsRightMethod, Signature, field_signature, method_signature, AreDistinct, IsRightPlan}
+use Rattle.class_making.specs.Right.{IsRightItem, HasRightCode, IsRightFieldPlan, IsRightMethodPlan, PlanSignature, field_signature, method_signature, HaveOwnSignatures, IsRightPlan}
 use Rattle.class_making.proofs.ListLemmas.{all_right, all_map, all_then, all_both}
 use Rattle.class_making.proofs.PoolLemmas.{Has, entry_found}
 use Rattle.class_making.proofs.PoolLaws.{Names, IsWhole, text_found}
@@ -59,7 +59,7 @@ right_entries items w =
 
 -- ---- fields
 
-right_field : (items : List Item) (p : ClassPlan) → length items ≤ 65534 → (f : FieldPlan) → AllByRecursion (Names items) (field_mentions f) × IsRightField p.flags f → rules.IsRightField (class_in items p) (field_in items f)
+right_field : (items : List Item) (p : ClassPlan) → length items ≤ 65534 → (f : FieldPlan) → AllByRecursion (Names items) (field_mentions f) × IsRightFieldPlan p.flags f → rules.IsRightField (class_in items p) (field_in items f)
 right_field items p room f h = record {
   name = has_text items f.name IsUnqualified room h.0.0.0 h.1.name;
   descriptor = has_text items f.descriptor IsField room h.0.1.0.0 h.1.descriptor;
@@ -114,7 +114,7 @@ right_bodies items flags (Some k) room h r = (
 same_text : (o : Option (List ℕ)) (t u : List ℕ) → o ≡ Some t → o ≡ Some u → t ≡ u
 same_text o t u p q = cc
 
-right_method : (items : List Item) (p : ClassPlan) → length items ≤ 65534 → (m : MethodPlan) → AllByRecursion (Names items) (method_mentions m) × IsRightMethod p.flags m → rules.IsRightMethod (class_in items p) (method_in items m)
+right_method : (items : List Item) (p : ClassPlan) → length items ≤ 65534 → (m : MethodPlan) → AllByRecursion (Names items) (method_mentions m) × IsRightMethodPlan p.flags m → rules.IsRightMethod (class_in items p) (method_in items m)
 right_method items p room m h =
     let name_there : Has items (Text m.name) = h.0.0.0 in
     let descriptor_there : Has items (Text m.descriptor) = h.0.1.0.0 in
@@ -138,19 +138,19 @@ pub said : (items : List Item) (t : List ℕ) → length items ≤ 65534 → Has
 said items t room h = ap (λ (o : Option (List ℕ)). unwrap_or o []) (text_found items t room h)
 
 -- the member says that signature
-abbrev pub Says : (items : List Item) → Member → Signature → Type 0
+abbrev pub Says : (items : List Item) → Member → PlanSignature → Type 0
 Says items m s = (text_at (pool_of items) m.name ≡ s.0) × (text_at (pool_of items) m.descriptor ≡ s.1)
 
-pub pair_same : (s t : Signature) → s.0 ≡ t.0 → s.1 ≡ t.1 → s ≡ t
+pub pair_same : (s t : PlanSignature) → s.0 ≡ t.0 → s.1 ≡ t.1 → s ≡ t
 pair_same s t p q = ap (λ (a : List ℕ). (a, s.1)) p ∙ ap (λ (b : List ℕ). (t.0, b)) q
 
-others_differ : {X : Type 0} (items : List Item) (f : X → Member) (signature : X → Signature) (x : X) → Says items (f x) (signature x) → (ys : List X) → AllByRecursion (λ y. ¬ (signature x ≡ signature y)) ys
+others_differ : {X : Type 0} (items : List Item) (f : X → Member) (signature : X → PlanSignature) (x : X) → Says items (f x) (signature x) → (ys : List X) → AllByRecursion (λ y. ¬ (signature x ≡ signature y)) ys
     → AllByRecursion (λ y. Says items (f y) (signature y)) ys → AllByRecursion (λ n. ¬ AreSame (pool_of items) (f x) n) (map f ys)
 others_differ items f signature x says [] d h = tt
 others_differ items f signature x says (y ∷ ys) d h =
     (λ same. d.0 (pair_same (signature x) (signature y) (sym says.0 ∙ same.0 ∙ h.0.0) (sym says.1 ∙ same.1 ∙ h.0.1)), others_differ items f signature x says ys d.1 h.1)
 
-are_distinct : {X : Type 0} (items : List Item) (f : X → Member) (signature : X → Signature) (xs : List X) → AreDistinct signature xs → AllByRecursion (λ x. Says items (f x) (signature x)) xs → rules.AreNamedOnce (pool_of items) (map f xs)
+are_distinct : {X : Type 0} (items : List Item) (f : X → Member) (signature : X → PlanSignature) (xs : List X) → HaveOwnSignatures signature xs → AllByRecursion (λ x. Says items (f x) (signature x)) xs → rules.AreNamedOnce (pool_of items) (map f xs)
 are_distinct items f signature [] d h = tt
 are_distinct items f signature (x ∷ xs) d h = (others_differ items f signature x h.0 xs d.0 h.1, are_distinct items f signature xs d.1 h.1)
 
@@ -190,11 +190,11 @@ follows_rules items p w h r =
       of_interface = r.of_interface;
       fields =
           all_map (rules.IsRightField (class_in items p)) (field_in items) p.fields
-          (all_then (λ f. NamesField f × IsRightField p.flags f) (λ f. rules.IsRightField (class_in items p) (field_in items f)) (right_field items p w.room) p.fields (all_both NamesField (IsRightField p.flags) p.fields h.fields r.fields));
+          (all_then (λ f. NamesField f × IsRightFieldPlan p.flags f) (λ f. rules.IsRightField (class_in items p) (field_in items f)) (right_field items p w.room) p.fields (all_both NamesField (IsRightFieldPlan p.flags) p.fields h.fields r.fields));
       methods =
           all_map (rules.IsRightMethod (class_in items p)) (method_in items) p.methods
-          (all_then (λ m. NamesMethod m × IsRightMethod p.flags m) (λ m. rules.IsRightMethod (class_in items p) (method_in items m)) (right_method items p w.room) p.methods
-          (all_both NamesMethod (IsRightMethod p.flags) p.methods h.methods r.methods));
+          (all_then (λ m. NamesMethod m × IsRightMethodPlan p.flags m) (λ m. rules.IsRightMethod (class_in items p) (method_in items m)) (right_method items p w.room) p.methods
+          (all_both NamesMethod (IsRightMethodPlan p.flags) p.methods h.methods r.methods));
       named = tt;
       distinct_fields = are_distinct items (field_in items) field_signature p.fields r.distinct_fields (all_then NamesField (λ f. Says items (field_in items f) (field_signature f)) (field_says items w.room) p.fields h.fields);
       distinct_methods = are_distinct items (method_in items) method_signature p.methods r.distinct_methods (all_then NamesMethod (λ m. Says items (method_in items m) (method_signature m)) (method_says items w.room) p.methods h.methods);

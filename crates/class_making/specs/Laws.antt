@@ -13,7 +13,7 @@ use Rattle.class_making.specs.declared.item.Item.{Item}
 use Rattle.class_making.specs.declared.plan.ClassPlan.{ClassPlan}
 use Rattle.class_making.specs.Making.{expanded, index_of, entry_of}
 use Rattle.class_making.specs.Plans.{plan_mentions, items_of, class_of}
-use Rattle.class_making.specs.Right.{Signature, field_signature, method_signature, IsRightPlan}
+use Rattle.class_making.specs.Right.{PlanSignature, field_signature, method_signature, IsRightPlan}
 
 -- a right plan makes a class file
 abbrev pub PlansAreClasses : Type 0
@@ -25,7 +25,7 @@ PlansAreClasses = (p : ClassPlan) → IsRightPlan p → IsClass (class_of p)
 abbrev pub class_text : List Entry → ℕ → List ℕ
 class_text pool index = option_map_or (text_at pool) (class_name_of (entry_at pool index)) []
 
-abbrev pub member_signature : List Entry → Member → Signature
+abbrev pub member_signature : List Entry → Member → PlanSignature
 member_signature pool m = (text_at pool m.name, text_at pool m.descriptor)
 
 -- the class file names what the plan names

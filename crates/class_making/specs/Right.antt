@@ -55,7 +55,7 @@ IsRightPiece (Byte byte) = byte < 2 ^ 8
 IsRightPiece (Index x) = Unit {0}
 
 -- from 1 to 65,535 bytes, and fewer than 2^32 of the attribute: 12 with no table of frames, and 6 beside the bytes of one
-pub record IsRightCode (k : CodePlan) : Type 0 where
+pub record IsRightCodePlan (k : CodePlan) : Type 0 where
   pub max_stack : IsHalf k.max_stack
   pub max_locals : IsHalf k.max_locals
   pub not_empty : 1 ≤ code_length k.pieces
@@ -66,12 +66,12 @@ pub record IsRightCode (k : CodePlan) : Type 0 where
 -- code stands exactly where the method is neither abstract nor native
 abbrev pub HasRightCode : (flags : ℕ) → Option CodePlan → Type 0
 HasRightCode flags None = IsSet flags acc_abstract ⊎ IsSet flags acc_native
-HasRightCode flags (Some k) = (¬ IsSet flags acc_abstract) × (¬ IsSet flags acc_native) × IsRightCode k
+HasRightCode flags (Some k) = (¬ IsSet flags acc_abstract) × (¬ IsSet flags acc_native) × IsRightCodePlan k
 
 -- ---- members
 
 -- a field of a class of these flags (4.5)
-pub record IsRightField (class_flags : ℕ) (f : FieldPlan) : Type 0 where
+pub record IsRightFieldPlan (class_flags : ℕ) (f : FieldPlan) : Type 0 where
   pub flags : IsHalf f.flags
   pub name : IsUnqualified f.name
   pub descriptor : IsField f.descriptor
@@ -79,37 +79,37 @@ pub record IsRightField (class_flags : ℕ) (f : FieldPlan) : Type 0 where
   pub of_interface : IsSet class_flags acc_interface → IsSet f.flags acc_public × IsSet f.flags acc_static × IsSet f.flags acc_final
 
 -- an instance initializer stands in no interface, isn't static and returns nothing (2.9)
-pub record IsRightInitializer (class_flags : ℕ) (m : MethodPlan) : Type 0 where
+pub record IsRightInitializerPlan (class_flags : ℕ) (m : MethodPlan) : Type 0 where
   pub of_class : ¬ IsSet class_flags acc_interface
   pub not_static : ¬ IsSet m.flags acc_static
   pub nothing : ReturnsNothing m.descriptor
 
 -- a method of a class of these flags (4.6)
-pub record IsRightMethod (class_flags : ℕ) (m : MethodPlan) : Type 0 where
+pub record IsRightMethodPlan (class_flags : ℕ) (m : MethodPlan) : Type 0 where
   pub flags : IsHalf m.flags
   pub name : IsDeclaredName m.name
   pub descriptor : TakesFewWords m.flags m.descriptor
   pub access : HasOneAccess m.flags
   pub plain : IsSet m.flags acc_abstract → IsPlain m.flags
-  pub initializer : m.name ≡ codes "<init>" → IsRightInitializer class_flags m
+  pub initializer : m.name ≡ codes "<init>" → IsRightInitializerPlan class_flags m
   pub code : HasRightCode m.flags m.code
 
 -- ---- the class (4.1)
 
 -- a name and a descriptor
-abbrev pub Signature : Type 0
-Signature = List ℕ × List ℕ
+abbrev pub PlanSignature : Type 0
+PlanSignature = List ℕ × List ℕ
 
-abbrev pub field_signature : FieldPlan → Signature
+abbrev pub field_signature : FieldPlan → PlanSignature
 field_signature f = (f.name, f.descriptor)
 
-abbrev pub method_signature : MethodPlan → Signature
+abbrev pub method_signature : MethodPlan → PlanSignature
 method_signature m = (m.name, m.descriptor)
 
 -- no two members have the same name and descriptor
-abbrev pub AreDistinct : {X : Type 0} → (X → Signature) → List X → Type 0
-AreDistinct signature [] = Unit {0}
-AreDistinct signature (x ∷ xs) = AllByRecursion (λ y. ¬ (signature x ≡ signature y)) xs × AreDistinct signature xs
+abbrev pub HaveOwnSignatures : {X : Type 0} → (X → PlanSignature) → List X → Type 0
+HaveOwnSignatures signature [] = Unit {0}
+HaveOwnSignatures signature (x ∷ xs) = AllByRecursion (λ y. ¬ (signature x ≡ signature y)) xs × HaveOwnSignatures signature xs
 
 -- what the plan says may stand in a class file, and its pool has room for it
 pub record IsRightPlan (p : ClassPlan) : Type 0 where
@@ -123,9 +123,9 @@ pub record IsRightPlan (p : ClassPlan) : Type 0 where
   pub superclass : AllByRecursion IsClassName (option_to_list p.superclass)
   pub interfaces : AllByRecursion IsClassName p.interfaces
   pub few_interfaces : length p.interfaces < 2 ^ 16
-  pub fields : AllByRecursion (IsRightField p.flags) p.fields
+  pub fields : AllByRecursion (IsRightFieldPlan p.flags) p.fields
   pub few_fields : length p.fields < 2 ^ 16
-  pub distinct_fields : AreDistinct field_signature p.fields
-  pub methods : AllByRecursion (IsRightMethod p.flags) p.methods
+  pub distinct_fields : HaveOwnSignatures field_signature p.fields
+  pub methods : AllByRecursion (IsRightMethodPlan p.flags) p.methods
   pub few_methods : length p.methods < 2 ^ 16
-  pub distinct_methods : AreDistinct method_signature p.methods
+  pub distinct_methods : HaveOwnSignatures method_signature p.methods

@@ -6,7 +6,7 @@ use Rattle.std.proofs.lemmas.List.{drop_all}
 use Rattle.std.proofs.lemmas.List.Concat.{flat_map-cons}
 use Rattle.class_pool.specs.declared.entry.Entry.{Entry}
 use Rattle.class_pool.specs.Utf8.{unit_bytes, utf8_bytes, AreUnits}
-use Rattle.class_pool.specs.Spelling.{IsInRange}
+use Rattle.class_pool.specs.Spelling.{IsEntryInRange}
 use Rattle.class_pool.specs.Grammar.{HaveSeconds, points_rightly, IsPool}
 use Rattle.class_pool.proofs.PoolLaws.{all_true, true_all}
 
@@ -42,7 +42,7 @@ pub record IsDue (entries : List Entry) (i : ℕ) (due : Bool) : Type 0 where
 
 -- ---- pools
 
-pub is_decided : (entries : List Entry) (b : Bool) → length entries ≤ 65534 → AllByRecursion IsInRange entries → HaveSeconds false entries → b ≡ list_all (points_rightly entries) entries → IsTrue b ↔ IsPool entries
+pub is_decided : (entries : List Entry) (b : Bool) → length entries ≤ 65534 → AllByRecursion IsEntryInRange entries → HaveSeconds false entries → b ≡ list_all (points_rightly entries) entries → IsTrue b ↔ IsPool entries
 is_decided entries b few range seconds is = (
   (λ t. record { count = omega arith; in_range = range; seconds = seconds; references = all_true (points_rightly entries) entries (sym is ∙ t) }),
   (λ h. is ∙ true_all (points_rightly entries) entries h.references),

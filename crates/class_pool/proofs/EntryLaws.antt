@@ -5,7 +5,7 @@ use Rattle.class_pool.specs.declared.entry.Entry.TheVariants as entries
 use Rattle.class_pool.specs.declared.tag.Tag.{Tag}
 use Rattle.class_pool.specs.declared.tag.Tag.TheVariants.{Utf8, Integer, Float, Long, Double, Class, Text, Field, Method, InterfaceMethod, NameAndType, Handle, MethodType, Dynamic}
 use Rattle.class_pool.specs.Utf8.{utf8_bytes, AreUnits}
-use Rattle.class_pool.specs.Spelling.{u2, u4, u8, entry_bytes, IsInRange}
+use Rattle.class_pool.specs.Spelling.{u2, u4, u8, entry_bytes, IsEntryInRange}
 use Rattle.class_pool.specs.Grammar.{is_second}
 use Rattle.base.specs.Reading.{◌>>=◌}
 use Rattle.class_pool.specs.Reading.{number_in, byte_in, utf8_in, indexes_in, handle_in, tag_number, tags, first_with, tag_in, as_entry, parts_in, place_in}
@@ -61,10 +61,10 @@ handle_again x rest fits =
 
 -- what an entry behind a tag is
 abbrev IsEntry : ℕ → List ℕ → Entry × List ℕ → Type 0
-IsEntry number bytes found = Takes (number ∷ bytes) (entry_bytes found.0) found.1 × IsInRange found.0 × (is_second found.0 ≡ false)
+IsEntry number bytes found = Takes (number ∷ bytes) (entry_bytes found.0) found.1 × IsEntryInRange found.0 × (is_second found.0 ≡ false)
 
 entry_takes : {X : Type 0} (number : ℕ) (f : X → Entry) (spelled : X → List ℕ) (fits : X → Type 0) (read : List ℕ → Option (X × List ℕ)) → IsTaken spelled fits read
-    → ((x : X) → entry_bytes (f x) ≡ number ∷ spelled x) → ((x : X) → fits x → IsInRange (f x)) → ((x : X) → is_second (f x) ≡ false)
+    → ((x : X) → entry_bytes (f x) ≡ number ∷ spelled x) → ((x : X) → fits x → IsEntryInRange (f x)) → ((x : X) → is_second (f x) ≡ false)
     → (bytes : List ℕ) (found : Entry × List ℕ) → IsBytes bytes → as_entry f (read bytes) ≡ Some found → IsEntry number bytes found
 entry_takes number f spelled fits read takes is range first bytes found small e =
     let a = bind_some (read bytes) (λ x. Some (f x.0, x.1)) found e in
@@ -111,7 +111,7 @@ tag_is number tag e = found_with number tags tag e
 -- what the entry of a place is
 pub record IsPlace (due : Bool) (bytes : List ℕ) (found : Entry × List ℕ) : Type 0 where
   pub takes : Takes bytes (entry_bytes found.0) found.1
-  pub in_range : IsInRange found.0
+  pub in_range : IsEntryInRange found.0
   pub is_due : is_second found.0 ≡ due
 
 pub place_takes : (due : Bool) (bytes : List ℕ) (found : Entry × List ℕ) → IsBytes bytes → place_in due bytes ≡ Some found → IsPlace due bytes found
@@ -129,7 +129,7 @@ place_takes false (number ∷ bytes) found fits e =
 again : {X : Type 0} (f : X → Entry) (x : X) (rest : List ℕ) (read : Option (X × List ℕ)) → read ≡ Some (x, rest) → as_entry f read ≡ Some (f x, rest)
 again f x rest read e = ap (as_entry f) e
 
-pub place_again : (e : Entry) (rest : List ℕ) → IsInRange e → place_in (is_second e) (entry_bytes e ++ rest) ≡ Some (e, rest)
+pub place_again : (e : Entry) (rest : List ℕ) → IsEntryInRange e → place_in (is_second e) (entry_bytes e ++ rest) ≡ Some (e, rest)
 unfolding place_in tag_in tag_number parts_in
 place_again (entries.Utf8 us) rest h = again entries.Utf8 us rest _ (utf8_again us rest h)
 place_again (entries.Integer n) rest h = again entries.Integer n rest _ (number_again 4 wide_4 n rest h)

@@ -8,7 +8,7 @@ use Rattle.std.proofs.lemmas.List.Concat.{flat_map-cons}
 use Rattle.class_pool.specs.declared.entry.Entry.{Entry}
 use Rattle.base.specs.declared.fault.FormatFault.{FormatFault}
 use Rattle.base.specs.declared.fault.FormatFault.TheVariants as faults
-use Rattle.class_pool.specs.Spelling.{u2, entry_bytes, IsInRange, pool_bytes}
+use Rattle.class_pool.specs.Spelling.{u2, entry_bytes, IsEntryInRange, pool_bytes}
 use Rattle.class_pool.specs.Grammar.{takes_two, HaveSeconds, points_rightly, IsPool, IsPoolOf}
 use Rattle.base.specs.Reading.{◌>>=◌, Fails}
 use Rattle.class_pool.specs.Reading.{number_in, place_in, places_in, pool_in}
@@ -19,7 +19,7 @@ use Rattle.class_pool.proofs.EntryLaws.{place_takes, place_again}
 record ArePlaces (n : ℕ) (due : Bool) (bytes : List ℕ) (found : List Entry × List ℕ) : Type 0 where
   takes : Takes bytes (flat_map entry_bytes found.0) found.1
   count : length found.0 ≡ n
-  in_range : AllByRecursion IsInRange found.0
+  in_range : AllByRecursion IsEntryInRange found.0
   seconds : HaveSeconds due found.0
 
 places_take : (n : ℕ) (due : Bool) (bytes : List ℕ) (found : List Entry × List ℕ) → IsBytes bytes → places_in n due bytes ≡ Some found → ArePlaces n due bytes found
@@ -36,7 +36,7 @@ places_take (suc n) due bytes found fits e =
     subst (ArePlaces (suc n) due bytes) (same_some (a.0.0 ∷ b.0.0, b.0.1) found b.2)
     (record { takes = rw flat_map-cons both; count = ap suc others.count; in_range = (first.in_range, others.in_range); seconds = (first.is_due, others.seconds) })
 
-places_again : (es : List Entry) (due : Bool) (rest : List ℕ) → AllByRecursion IsInRange es → HaveSeconds due es → places_in (length es) due (flat_map entry_bytes es ++ rest) ≡ Some (es, rest)
+places_again : (es : List Entry) (due : Bool) (rest : List ℕ) → AllByRecursion IsEntryInRange es → HaveSeconds due es → places_in (length es) due (flat_map entry_bytes es ++ rest) ≡ Some (es, rest)
 unfolding places_in
 places_again [] due rest range seconds = rw seconds refl
 places_again (e ∷ es) due rest range seconds =

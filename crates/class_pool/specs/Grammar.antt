@@ -1,11 +1,11 @@
 -- Which entries are a pool, and what its indexes point at: JVM Specification SE 8, 4.4.
 use Rattle.std.specs.Prelude.{◌≡◌, ℕ, zero, suc, ◌+◌, ◌<◌, ◌^◌, Bool, true, false, ◌&&◌, ◌||◌, ◌==◌, nat_le, if◌then◌else◌, IsTrue, Option, Some, None, List}
-use Rattle.std.specs.Prelude.{unwrap_or, [], ◌∷◌, length, slice_get}
+use Rattle.std.specs.Prelude.{unwrap_or, [], ◌∷◌, length, slice_get, not, bit_and}
 use Rattle.std.specs.List.{AllByRecursion}
 use Rattle.class_pool.specs.declared.entry.Entry.{Entry}
 use Rattle.class_pool.specs.declared.entry.Entry.TheVariants.{Utf8, Long, Double, Class, Text, Field, Method, InterfaceMethod, NameAndType, Handle, MethodType}
 use Rattle.class_pool.specs.declared.entry.Entry.TheVariants.{Dynamic, Second}
-use Rattle.class_pool.specs.Spelling.{pool_bytes, IsInRange}
+use Rattle.class_pool.specs.Spelling.{pool_bytes, IsEntryInRange}
 
 -- Long and Double take two places (4.4.5)
 abbrev pub takes_two : Entry → Bool
@@ -76,7 +76,7 @@ points_rightly entries entry = true
 -- the entries are those of a pool, that of index i at place i - 1
 pub record IsPool (entries : List Entry) : Type 0 where
   pub count : length entries + 1 < 2 ^ 16
-  pub in_range : AllByRecursion IsInRange entries
+  pub in_range : AllByRecursion IsEntryInRange entries
   pub seconds : HaveSeconds false entries
   pub references : AllByRecursion (λ entry. IsTrue (points_rightly entries entry)) entries
 
@@ -101,3 +101,7 @@ class_name_of entry = None
 abbrev pub name_and_type_of : Option Entry → Option (ℕ × ℕ)
 name_and_type_of (Some (NameAndType name descriptor)) = Some (name, descriptor)
 name_and_type_of entry = None
+
+-- some of these flags are set
+abbrev pub has : (flags mask : ℕ) → Bool
+has flags mask = not (bit_and flags mask == 0)

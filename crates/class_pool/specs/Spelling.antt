@@ -36,22 +36,22 @@ entry_bytes (Dynamic bootstrap member) = 18 ∷ (u2 bootstrap ++ u2 member)
 entry_bytes Second = []
 
 -- the numbers of an entry fit their bytes
-abbrev pub IsInRange : Entry → Type 0
-IsInRange (Utf8 units) = AreUnits units × (length (utf8_bytes units) < 2 ^ 16)
-IsInRange (Integer n) = n < 2 ^ 32
-IsInRange (Float bits) = bits < 2 ^ 32
-IsInRange (Long n) = n < 2 ^ 64
-IsInRange (Double bits) = bits < 2 ^ 64
-IsInRange (Class name) = name < 2 ^ 16
-IsInRange (Text units) = units < 2 ^ 16
-IsInRange (Field owner member) = (owner < 2 ^ 16) × (member < 2 ^ 16)
-IsInRange (Method owner member) = (owner < 2 ^ 16) × (member < 2 ^ 16)
-IsInRange (InterfaceMethod owner member) = (owner < 2 ^ 16) × (member < 2 ^ 16)
-IsInRange (NameAndType name descriptor) = (name < 2 ^ 16) × (descriptor < 2 ^ 16)
-IsInRange (Handle kind reference) = (kind < 2 ^ 8) × (reference < 2 ^ 16)
-IsInRange (MethodType descriptor) = descriptor < 2 ^ 16
-IsInRange (Dynamic bootstrap member) = (bootstrap < 2 ^ 16) × (member < 2 ^ 16)
-IsInRange Second = Unit {0}
+abbrev pub IsEntryInRange : Entry → Type 0
+IsEntryInRange (Utf8 units) = AreUnits units × (length (utf8_bytes units) < 2 ^ 16)
+IsEntryInRange (Integer n) = n < 2 ^ 32
+IsEntryInRange (Float bits) = bits < 2 ^ 32
+IsEntryInRange (Long n) = n < 2 ^ 64
+IsEntryInRange (Double bits) = bits < 2 ^ 64
+IsEntryInRange (Class name) = name < 2 ^ 16
+IsEntryInRange (Text units) = units < 2 ^ 16
+IsEntryInRange (Field owner member) = (owner < 2 ^ 16) × (member < 2 ^ 16)
+IsEntryInRange (Method owner member) = (owner < 2 ^ 16) × (member < 2 ^ 16)
+IsEntryInRange (InterfaceMethod owner member) = (owner < 2 ^ 16) × (member < 2 ^ 16)
+IsEntryInRange (NameAndType name descriptor) = (name < 2 ^ 16) × (descriptor < 2 ^ 16)
+IsEntryInRange (Handle kind reference) = (kind < 2 ^ 8) × (reference < 2 ^ 16)
+IsEntryInRange (MethodType descriptor) = descriptor < 2 ^ 16
+IsEntryInRange (Dynamic bootstrap member) = (bootstrap < 2 ^ 16) × (member < 2 ^ 16)
+IsEntryInRange Second = Unit {0}
 
 -- the bytes of a pool: one more than its places, and its entries
 abbrev pub pool_bytes : List Entry → List ℕ

@@ -2,7 +2,7 @@
 ghost use Rattle.std.specs.Prelude.{◌≡◌, ◌↔◌, ◌<◌, ◌^◌, List, length, IsTrue, false};
 ghost use Rattle.std.specs.List.{list_all, AllByRecursion};
 ghost use Rattle.class_pool.specs.Utf8.{unit_bytes, utf8_bytes, AreUnits};
-ghost use Rattle.class_pool.specs.Spelling.{IsInRange};
+ghost use Rattle.class_pool.specs.Spelling.{IsEntryInRange};
 ghost use Rattle.class_pool.specs.Grammar.{HaveSeconds, IsPool};
 
 use crate::entry::Entry;
@@ -41,7 +41,7 @@ fn has_bytes(units: &[u16]) -> bool
 
 /// All but texts fit by their types, which the proof learns where they are read.
 fn is_in_range(entry: &Entry) -> bool
-    ensures { IsTrue result ↔ IsInRange entry.now }
+    ensures { IsTrue result ↔ IsEntryInRange entry.now }
 {
     match *entry {
         Entry::Utf8(ref units) => has_bytes(units.as_slice()),
@@ -59,7 +59,7 @@ fn is_in_range(entry: &Entry) -> bool
 }
 
 fn are_in_range(entries: &[Entry]) -> bool
-    ensures { IsTrue result ↔ AllByRecursion IsInRange entries.now }
+    ensures { IsTrue result ↔ AllByRecursion IsEntryInRange entries.now }
 {
     entries.iter().all(is_in_range)
 }

@@ -14,7 +14,7 @@ use Rattle.class_pool.specs.declared.class.Body.TheVariants.{Code, ConstantValue
 use Rattle.class_pool.specs.declared.class.Code.{Code as CodeParts}
 use Rattle.class_pool.specs.declared.class.Member.{Member}
 use Rattle.class_pool.specs.declared.class.ClassFile.{ClassFile}
-use Rattle.class_pool.specs.Grammar.{entry_at, is_utf8, is_class, text_at}
+use Rattle.class_pool.specs.Grammar.{entry_at, is_utf8, is_class, text_at, has}
 use Rattle.descriptors.specs.declared.descriptor.Element.{Element}
 use Rattle.descriptors.specs.declared.descriptor.Element.TheVariants as elements
 use Rattle.descriptors.specs.declared.descriptor.FieldType.{FieldType}
@@ -25,8 +25,8 @@ use Rattle.class_rules.specs.declared.forms.Form.{Form}
 use Rattle.class_rules.specs.Forms.{is_string, element_constant, constant_of, field_constant, call_of, form_of, forms_of, form_at}
 use Rattle.class_rules.specs.Flags.{acc_public, acc_private, acc_protected, acc_static, acc_final, acc_synchronized, acc_native, acc_interface, acc_abstract, acc_strict, IsSet}
 use Rattle.class_rules.specs.Tests as tests
-use Rattle.class_rules.specs.Tests.{has, fits_constant, fits_field, is_constant, is_constant_value, is_code, is_frame_table, takes_words, is_void, same_member, are_distinct}
-use Rattle.class_rules.specs.Rules.{IsText, HasText, IsAnyText, IsField, IsClassAt, IsUnqualified, IsDeclaredName, AreNamed, IsCaught, IsRightCode, IsRightBody, HasOneAccess, IsInteger, IsFloat, IsLong, IsDouble, IsString, IsConstantOfElement, IsConstantOf, IsFieldConstant, IsRightConstant, IsRightField, TakesFewWords, IsPlain, ReturnsNothing, IsRightInitializer, IsRightMethod, AreSame, AreNamedOnce, IsRightEntry, FollowsRules}
+use Rattle.class_rules.specs.Tests.{fits_constant, fits_field, is_constant, is_constant_value, is_code, is_frame_table, takes_words, is_void, same_member, are_distinct}
+use Rattle.class_rules.specs.Rules.{IsText, HasText, IsAnyText, IsField, IsClassAt, IsUnqualified, IsDeclaredName, AreNamed, IsCatchType, IsRightCode, IsRightBody, HasOneAccess, IsInteger, IsFloat, IsLong, IsDouble, IsString, IsConstantOfElement, IsConstantOf, IsFieldConstant, IsRightConstant, IsRightField, TakesFewWords, IsPlain, ReturnsNothing, IsRightInitializer, IsRightMethod, AreSame, AreNamedOnce, IsRightEntry, FollowsRules}
 use Rattle.class_rules.proofs.RuleLaws.{FieldLaw, MethodLaw, itself, implies, all_decide, none_decide, flag_decides, text_decides, field_decides, method_decides, is_field_decides, entry_decides, class_decides, is_text_decides, is_class_decides}
 
 le_decides : (a b : ℕ) → Decides (nat_le a b) (a ≤ b)
@@ -37,7 +37,7 @@ le_decides a b = (leb-true a b, le-leb a b)
 named_decide : (pool : List Entry) (attributes : List Attribute) → Decides (tests.are_named pool attributes) (AreNamed pool attributes)
 named_decide pool attributes = all_decide (λ a. is_utf8 (entry_at pool a.name)) (λ a. HasText pool a.name IsAnyText) (λ a. is_text_decides pool a.name) attributes
 
-caught_decides : (pool : List Entry) (caught : ℕ) → Decides (tests.catches_class pool caught) (IsCaught pool caught)
+caught_decides : (pool : List Entry) (caught : ℕ) → Decides (tests.catches_class pool caught) (IsCatchType pool caught)
 caught_decides pool caught = Decides-or (caught == 0) (is_class (entry_at pool caught)) (Decides-eqb caught 0) (is_class_decides (entry_at pool caught))
 
 code_decides : (pool : List Entry) (c : CodeParts) → Decides (tests.is_right_code pool c) (IsRightCode pool c)
@@ -52,7 +52,7 @@ code_decides pool c =
     (λ r. ((((r.not_empty, r.not_long), r.caught), r.named), r.frames))
     (Decides-and (a && b && d && e) f
     (Decides-and (a && b && d) e
-    (Decides-and (a && b) d (Decides-and a b (le_decides 1 (length c.code)) (le_decides (length c.code) 65535)) (all_decide (λ h. tests.catches_class pool h.3) (λ h. IsCaught pool h.3) (λ h. caught_decides pool h.3) c.handlers))
+    (Decides-and (a && b) d (Decides-and a b (le_decides 1 (length c.code)) (le_decides (length c.code) 65535)) (all_decide (λ h. tests.catches_class pool h.3) (λ h. IsCatchType pool h.3) (λ h. caught_decides pool h.3) c.handlers))
     (all_decide (λ x. is_utf8 (entry_at pool x.0)) (λ x. HasText pool x.0 IsAnyText) (λ x. is_text_decides pool x.0) c.attributes))
     (le_decides (count_by (is_frame_table pool) c.attributes) 1))
 

@@ -7,7 +7,7 @@ use Rattle.std.proofs.lemmas.Bool.Decides.{Decides-eqb, Decides-not, Decides-and
 use Rattle.std.proofs.lemmas.Option.{same_Some}
 use Rattle.class_pool.specs.declared.entry.Entry.{Entry}
 use Rattle.class_pool.specs.declared.entry.Entry.TheVariants as entries
-use Rattle.class_pool.specs.Grammar.{entry_at, utf8_of, is_utf8, is_class}
+use Rattle.class_pool.specs.Grammar.{entry_at, utf8_of, is_utf8, is_class, has}
 use Rattle.descriptors.specs.declared.descriptor.FieldType.{FieldType}
 use Rattle.descriptors.specs.declared.descriptor.MethodType.{MethodType}
 use Rattle.descriptors.specs.Names.{is_class_name}
@@ -17,7 +17,7 @@ use Rattle.class_rules.specs.declared.forms.Form.{Form}
 use Rattle.class_rules.specs.declared.forms.Call.{Call}
 use Rattle.class_rules.specs.Forms.{call_of, is_array, form_of, no_form, entry_form, forms_of, found_form, form_at}
 use Rattle.class_rules.specs.Flags.{IsSet}
-use Rattle.class_rules.specs.Tests.{has, described, names_rightly, names_class}
+use Rattle.class_rules.specs.Tests.{described, names_rightly, names_class}
 use Rattle.class_rules.specs.Rules.{HasText, IsAnyText, IsField, IsArray, IsMethod, IsClassName, IsUnqualified, IsMethodName, IsDescribed, IsRightEntry, IsClassAt}
 
 -- what is said of descriptors: those that are read are those that are spelled

@@ -87,14 +87,14 @@ abbrev pub AreNamed : List Entry → List Attribute → Type 0
 AreNamed pool attributes = AllByRecursion (λ a. HasText pool a.name IsAnyText) attributes
 
 -- what an exception handler catches is anything or a class (4.7.3)
-abbrev pub IsCaught : List Entry → ℕ → Type 0
-IsCaught pool caught = (caught ≡ 0) ⊎ ((name : ℕ) × (entry_at pool caught ≡ Some (entries.Class name)))
+abbrev pub IsCatchType : List Entry → ℕ → Type 0
+IsCatchType pool caught = (caught ≡ 0) ⊎ ((name : ℕ) × (entry_at pool caught ≡ Some (entries.Class name)))
 
 -- code (4.7.3), with one table of frames at most (4.7.4)
 pub record IsRightCode (pool : List Entry) (c : CodeParts) : Type 0 where
   pub not_empty : 1 ≤ length c.code
   pub not_long : length c.code ≤ 65535
-  pub caught : AllByRecursion (λ h. IsCaught pool h.3) c.handlers
+  pub caught : AllByRecursion (λ h. IsCatchType pool h.3) c.handlers
   pub named : AllByRecursion (λ a. HasText pool a.0 IsAnyText) c.attributes
   pub frames : count_by (is_frame_table pool) c.attributes ≤ 1
 

@@ -1,12 +1,12 @@
 -- The rules as the code tests them, over what each text is (Forms). What they say stands in Rules, and that the two
 -- are the same is a law.
 use Rattle.std.specs.Prelude.{ℕ, ◌+◌, Bool, true, false, not, ◌&&◌, ◌||◌, ◌==◌, nat_le, nat_eq, if◌then◌else◌, List, [], ◌∷◌, length, codes, count_by, Option}
-use Rattle.std.specs.Prelude.{Some, None, is_some, bit_and}
+use Rattle.std.specs.Prelude.{Some, None, is_some}
 use Rattle.std.specs.List.{list_all, list_any}
 use lib.Pointwise.{pointwise}
 use Rattle.class_pool.specs.declared.entry.Entry.{Entry}
 use Rattle.class_pool.specs.declared.entry.Entry.TheVariants as entries
-use Rattle.class_pool.specs.Grammar.{entry_at, is_utf8, is_class, text_at}
+use Rattle.class_pool.specs.Grammar.{entry_at, is_utf8, is_class, text_at, has}
 use Rattle.class_pool.specs.declared.class.Attribute.{Attribute}
 use Rattle.class_pool.specs.declared.class.Body.{Body}
 use Rattle.class_pool.specs.declared.class.Body.TheVariants.{Code, ConstantValue}
@@ -21,10 +21,6 @@ use Rattle.class_pool.specs.Kind.{is_named}
 use Rattle.class_rules.specs.Forms.{form_at, no_form}
 use Rattle.class_rules.specs.Flags.{acc_public, acc_private, acc_protected, acc_static, acc_final, acc_synchronized, acc_native, acc_interface, acc_abstract}
 use Rattle.class_rules.specs.Flags.{acc_strict}
-
--- some of these flags are set
-abbrev pub has : ℕ → ℕ → Bool
-has flags mask = not (bit_and flags mask == 0)
 
 -- ---- the pool
 

@@ -1,6 +1,7 @@
 //! The flags of classes, fields and methods (JVM Specification SE 8, tables 4.1-A, 4.5-A and 4.6-A).
 ghost use Rattle.std.specs.Prelude.{◌≡◌};
-ghost use Rattle.class_rules.specs.Tests.{has, has_one_access};
+ghost use Rattle.class_rules.specs.Tests.{has_one_access};
+ghost use Rattle.class_pool.specs.Grammar.{has};
 
 pub const ACC_PUBLIC: u16 = 0x0001;
 

@@ -2,7 +2,7 @@
 ghost use Rattle.std.specs.Prelude.{◌≡◌, ◌+◌, ◌<◌, ◌^◌, ◌++◌, ◌∷◌, [], length, OnOk};
 ghost use Rattle.std.specs.List.{flat_map, AllByRecursion};
 ghost use Rattle.class_pool.specs.Utf8.{utf8_bytes};
-ghost use Rattle.class_pool.specs.Spelling.{u2, entry_bytes, IsInRange, pool_bytes};
+ghost use Rattle.class_pool.specs.Spelling.{u2, entry_bytes, IsEntryInRange, pool_bytes};
 ghost use Rattle.class_pool.specs.Grammar.{IsPool};
 
 use crate::numbers::{put_u16, put_u32, put_u64};
@@ -38,7 +38,7 @@ fn put_two(out: &mut Vec<u8>, tag: u8, first: u16, second: u16) -> Result<(), No
 
 /// An entry, its tag first.
 fn put_entry(alloc: Global, out: &mut Vec<u8>, entry: &Entry) -> Result<(), NoMemory>
-    requires { IsInRange entry.now }
+    requires { IsEntryInRange entry.now }
     ensures { OnOk result (out.new.items ≡ out.old.items ++ entry_bytes entry.now) }
 {
     match entry {
@@ -80,7 +80,7 @@ fn put_entry(alloc: Global, out: &mut Vec<u8>, entry: &Entry) -> Result<(), NoMe
 }
 
 fn put_entries(alloc: Global, out: &mut Vec<u8>, entries: &[Entry]) -> Result<(), NoMemory>
-    requires { AllByRecursion IsInRange entries.now }
+    requires { AllByRecursion IsEntryInRange entries.now }
     ensures { OnOk result (out.new.items ≡ out.old.items ++ flat_map entry_bytes entries.now) }
 {
     for entry in entries {

@@ -12,17 +12,17 @@ use Rattle.command_line.specs.declared.table.Name.{Name}
 use Rattle.command_line.specs.declared.table.Name.TheVariants.{Main, Method, All, Shapes, Cycles, Stack, Memory, Blocks, BlockWords, Read, Write, Micro, Rounds}
 use Rattle.command_line.specs.declared.command.Command.{Command}
 use Rattle.command_line.specs.declared.command.Command.TheVariants as commands
-use Rattle.command_line.specs.Table.{name_word, usual, Value, Nothing, AWord, ANumber, OneOf, value_of_name, operands_of}
+use Rattle.command_line.specs.Table.{name_word, usual, OptionValue, Nothing, AWord, ANumber, OneOf, value_of_name, operands_of}
 use Rattle.command_line.specs.Command.{texts, given, with_value, none_given, has_required, value, settings_of, made, command_of}
 use Rattle.command_line.specs.Grammar.{Chosen, words_chosen, Means, AreChosen, values_from, AreOperands, IsCommand}
-use Rattle.command_line.specs.Range.{AreSettings, AreInRange, AreThere, OperandsFollow}
+use Rattle.command_line.specs.Range.{AreSettings, HasNumbersInRange, AreThere, OperandsFollow}
 use Rattle.command_line.proofs.WordLemmas.{length_texts}
 use Rattle.command_line.proofs.Stored.{IsFull, full_with, given-same, given-other, same_or_other}
 use Rattle.command_line.proofs.Reading.{required_given}
 use Rattle.command_line.proofs.Telling.{commands_told}
 
 -- what the value of an option can mean among n words
-abbrev CanMean : Value → (n : ℕ) → ℕ → Type 0
+abbrev CanMean : OptionValue → (n : ℕ) → ℕ → Type 0
 CanMean Nothing n m = Unit {0}
 CanMean AWord n m = m < n
 CanMean (ANumber from to) n m = (from ≤ m) × (m ≤ to)
@@ -31,7 +31,7 @@ CanMean (OneOf ns) n m = Contains ns m
 abbrev AreKept : List (Option ℕ) → (n : ℕ) → Type 0
 AreKept values n = (name : Name) (m : ℕ) → given values name ≡ Some m → CanMean (value_of_name name) n m
 
-means_can : (v : Value) (k : ℕ) (word : Option (List ℕ)) (m n : ℕ) → (is_some word ≡ true → k < n) → Means v k word m → CanMean v n m
+means_can : (v : OptionValue) (k : ℕ) (word : Option (List ℕ)) (m n : ℕ) → (is_some word ≡ true → k < n) → Means v k word m → CanMean v n m
 means_can Nothing k word m n there h = tt
 means_can AWord k None m n there h = absurd h
 means_can AWord k (Some word) m n there h = let below = there refl in omega (arith, h.1, below)
@@ -111,7 +111,7 @@ settings_are values n kept =
     }
 
 named_there : (values : List (Option ℕ)) (name : Name) (n : ℕ) → value_of_name name ≡ AWord → usual name ≡ 0 → 0 < n → AreKept values n → value values name < n
-named_there values name n takes none some kept = meant (given values name) (usual name) (λ m. m < n) (omega (arith, none, some)) (λ m h. let P : Value → Type 0 = λ v. CanMean v n m in subst P takes (kept name m h))
+named_there values name n takes none some kept = meant (given values name) (usual name) (λ m. m < n) (omega (arith, none, some)) (λ m h. let P : OptionValue → Type 0 = λ v. CanMean v n m in subst P takes (kept name m h))
 
 -- an option that is required, and was given
 given_one : (o : Option ℕ) (d : ℕ) (P : ℕ → Type 0) → (is_some o || false) && true ≡ true → ((m : ℕ) → o ≡ Some m → P m) → P (unwrap_or o d)
@@ -127,14 +127,14 @@ bound_by P true shapes every each one is_every is_each is_one = is_every
 bound_by P false true every each one is_every is_each is_one = is_each
 bound_by P false false every each one is_every is_each is_one = is_one
 
-made_in_range : (verb : Verb) (values : List (Option ℕ)) (k m n : ℕ) (operands : List (List ℕ)) → AreKept values n → has_required verb values ≡ true → AreOperands (operands_of verb) operands m → AreInRange (made verb values k m)
+made_in_range : (verb : Verb) (values : List (Option ℕ)) (k m n : ℕ) (operands : List (List ℕ)) → AreKept values n → has_required verb values ≡ true → AreOperands (operands_of verb) operands m → HasNumbersInRange (made verb values k m)
 made_in_range Link values k m n operands kept required are = tt
 made_in_range Run values k m n operands kept required are = settings_are values n kept
 made_in_range Trace values k m n operands kept required are = settings_are values n kept
 made_in_range Profile values k m n operands kept required are = settings_are values n kept
 made_in_range Bound values k m n operands kept required are =
     let settings = settings_are values n kept in
-    bound_by AreInRange (is_some (given values All)) (is_some (given values Shapes)) (commands.BoundAll (settings_of values) k (k + 1)) (commands.BoundShapes (settings_of values) (value values Method) k (k + 1))
+    bound_by HasNumbersInRange (is_some (given values All)) (is_some (given values Shapes)) (commands.BoundAll (settings_of values) k (k + 1)) (commands.BoundShapes (settings_of values) (value values Method) k (k + 1))
     (commands.Bound (settings_of values) (value values Method) k (k + 1)) settings settings settings
 made_in_range Report values k m n operands kept required are = settings_are values n kept
 made_in_range Plan values k m n operands kept required are = let rounds = rounds_are values n kept required in (settings_are values n kept, rounds.0, rounds.1)
@@ -202,22 +202,22 @@ made_follow Need values k m = (refl, refl)
 made_follow Asm values k m = tt
 made_follow Work values k m = tt
 
-commands_in_range : (words : List (List ℕ)) (command : Command) → IsCommand words command → AreInRange command × AreThere (length words) command
+commands_in_range : (words : List (List ℕ)) (command : Command) → IsCommand words command → HasNumbersInRange command × AreThere (length words) command
 commands_in_range words command is =
     let k = 1 + length (flat_map words_chosen is.options) in
     let all : length words ≡ k + length is.operands = ap length is.words_are ∙ omega (arith, length-append (flat_map words_chosen is.options) is.operands) in
     let required = required_given is.verb is.options is.required in
     let kept = kept_chosen is.verb 1 none_given is.options (length words) refl (omega (arith, all)) is.chosen (none_kept (length words)) in
     let values = values_from none_given is.options in
-    let P : Command → Type 0 = λ c. AreInRange c × AreThere (length words) c in
+    let P : Command → Type 0 = λ c. HasNumbersInRange c × AreThere (length words) c in
     subst P (sym is.command_is) (made_in_range is.verb values k is.number (length words) is.operands kept required is.are_operands, made_there is.verb values k is.number (length words) is.operands all kept is.are_operands)
 
-read_in_range : (ws : List (Bor (List ℕ))) (command : Command) → Ok command ≡ command_of (texts ws) → AreInRange command × AreThere (length ws) command
+read_in_range : (ws : List (Bor (List ℕ))) (command : Command) → Ok command ≡ command_of (texts ws) → HasNumbersInRange command × AreThere (length ws) command
 read_in_range ws command is =
     let both = commands_in_range (texts ws) command (commands_told (texts ws) command (sym is)) in
     (both.0, subst (λ n. AreThere n command) (length_texts ws) both.1)
 
-pub ranges : (ws : List (Bor (List ℕ))) (r : Result Command ℕ) → r ≡ command_of (texts ws) → IfOk r AreInRange
+pub ranges : (ws : List (Bor (List ℕ))) (r : Result Command ℕ) → r ≡ command_of (texts ws) → IfOk r HasNumbersInRange
 ranges ws (Ok command) is = (read_in_range ws command is).0
 ranges ws (Err k) is = tt
 

@@ -11,7 +11,7 @@ use Rattle.std.proofs.lemmas.List.Sums.{list_all-from_AllPass}
 use Rattle.command_line.specs.declared.table.Verb.{Verb}
 use Rattle.command_line.specs.declared.table.Name.{Name}
 use Rattle.command_line.specs.declared.command.Command.{Command}
-use Rattle.command_line.specs.Table.{name_word, names_of, name_of, required_of, Value, Nothing, AWord, ANumber, OneOf, value_of_name, Operands, Exactly, AtMost, AtLeast, Number, operands_of}
+use Rattle.command_line.specs.Table.{name_word, names_of, name_of, required_of, OptionValue, Nothing, AWord, ANumber, OneOf, value_of_name, OperandCount, Exactly, AtMost, AtLeast, Number, operands_of}
 use Rattle.command_line.specs.Command.{given, with_value, none_given, is_taken, has_required, is_flag, made, exactly_at, at_most_at, at_least_at, past_number, number_from, operands_stop, operand_number, unless_stopped, words_at, command_of}
 use Rattle.command_line.specs.Grammar.{Chosen, words_chosen, Means, AreChosen, IsNoneOf, AreOnce, values_from, AreOperands, BeginsWithNoOption, IsCommand}
 use Rattle.command_line.proofs.Numbers.{number-some}
@@ -31,7 +31,7 @@ new_later values a n [] new none = tt
 new_later values a n (c ∷ cs) new none = (untaken_with values a c.name n new.0 none.0, new_later values a n cs new.1 none.1)
 
 -- one option, with what it takes
-one_flag : (verb : Verb) (k : ℕ) (values : List (Option ℕ)) (name : Name) (v : Value) (n : ℕ) (rest : List (List ℕ)) → Contains (names_of verb) name → is_taken values name ≡ false → value_of_name name ≡ v → Means v (k + 1) None n
+one_flag : (verb : Verb) (k : ℕ) (values : List (Option ℕ)) (name : Name) (v : OptionValue) (n : ℕ) (rest : List (List ℕ)) → Contains (names_of verb) name → is_taken values name ≡ false → value_of_name name ≡ v → Means v (k + 1) None n
     → words_at None verb (k + 1) (with_value values name n) rest ≡ words_at None verb k values (name_word name ∷ rest)
 one_flag verb k values name Nothing n rest has new is means =
     ap (λ m. words_at None verb (k + 1) (with_value values name m) rest) means
@@ -41,7 +41,7 @@ one_flag verb k values name AWord n rest has new is means = absurd means
 one_flag verb k values name (ANumber from to) n rest has new is means = absurd means
 one_flag verb k values name (OneOf ns) n rest has new is means = absurd means
 
-takes_value : (v : Value) (k : ℕ) (word : List ℕ) (n : ℕ) → Means v k (Some word) n → is_flag v ≡ false
+takes_value : (v : OptionValue) (k : ℕ) (word : List ℕ) (n : ℕ) → Means v k (Some word) n → is_flag v ≡ false
 takes_value Nothing k word n h = absurd h
 takes_value AWord k word n h = refl
 takes_value (ANumber from to) k word n h = refl
@@ -124,7 +124,7 @@ at_least_none k n [] many all =
     ap (λ j. at_least_at k j []) none
 at_least_none k n (w ∷ ws) many all = let some = some_words w ws all in sym (at_least_step k n w ws some.0) ∙ at_least_none (k + 1) (n - 1) ws (omega (arith, many)) some.1
 
-unstopped : (o : Operands) (k : ℕ) (w : List ℕ) (ws : List (List ℕ)) (n : ℕ) → AreOperands o (w ∷ ws) n → (operands_stop o k w ws ≡ None) × (operand_number o w ws ≡ n)
+unstopped : (o : OperandCount) (k : ℕ) (w : List ℕ) (ws : List (List ℕ)) (n : ℕ) → AreOperands o (w ∷ ws) n → (operands_stop o k w ws ≡ None) × (operand_number o w ws ≡ n)
 unstopped (Exactly m) k w ws n h = (exactly_none k m (w ∷ ws) h.0 h.1, sym h.2)
 unstopped (AtMost m) k w ws n h = let many = h.3 in (at_most_none k m (w ∷ ws) h.1 h.2, omega (arith, many))
 unstopped (AtLeast m) k w ws n h = (at_least_none k m (w ∷ ws) h.0 h.1, sym h.2)

@@ -11,7 +11,7 @@ use Rattle.command_line.specs.declared.table.Verb.TheVariants.{Link, Run, Trace,
 use Rattle.command_line.specs.declared.table.Name.{Name}
 use Rattle.command_line.specs.declared.table.Name.TheVariants.{Main, Method, All, Shapes, Cycles, Stack, Memory, Blocks, BlockWords, Read, Write, Micro, Rounds}
 use Rattle.command_line.specs.declared.command.Command.{Command}
-use Rattle.command_line.specs.Table.{name_word, rivals, names_of, verb_named, name_of, value_of_name, Operands, Exactly, AtMost, AtLeast, Number, operands_of}
+use Rattle.command_line.specs.Table.{name_word, rivals, names_of, verb_named, name_of, value_of_name, OperandCount, Exactly, AtMost, AtLeast, Number, operands_of}
 use Rattle.command_line.specs.Command.{is_option, given, with_value, none_given, is_taken, has_required, is_flag, meaning, made, exactly_at, at_most_at, at_least_at, past_number, number_from, operands_stop, operand_number, unless_stopped, words_at, command_of}
 use Rattle.command_line.specs.Grammar.{IsCommand, StopsAt, Answers, CommandsAreRead}
 use Rattle.command_line.proofs.WordLemmas.{if_true, if_false, option_at, option_word, operand_word, value_by, exactly_step, exactly_past, exactly_empty, at_most_step, at_most_past, at_most_empty, at_least_step, at_least_empty}
@@ -131,7 +131,7 @@ list_same stop other k ws j same s = record {
 }
 
 -- the first operand is none, or the operands stop at a later word
-abbrev OperandStops : Operands → (k : ℕ) → List ℕ → List (List ℕ) → ℕ → Type 0
+abbrev OperandStops : OperandCount → (k : ℕ) → List ℕ → List (List ℕ) → ℕ → Type 0
 OperandStops o k w ws j = ((j ≡ k) × ((after : List (List ℕ)) → operands_stop o k w after ≡ Some j)) ⊎ ListStops (operands_stop o k w) (k + 1) ws j
 
 number_stops : (from to k : ℕ) (w : List ℕ) (ws : List (List ℕ)) (j : ℕ) (o : Option ℕ) → number_from from to w ≡ o → past_number k o ws ≡ Some j → OperandStops (Number from to) k w ws j
@@ -143,7 +143,7 @@ number_stops from to k w (v ∷ ws) j (Some n) read h =
     let is : j ≡ k + 1 = cc in
     inr (list_here (λ r. past_number k (number_from from to w) r) (k + 1) (v ∷ ws) [] j is (ap (λ o. past_number k o []) read) (λ u r same after. ap (λ o. past_number k o (u ∷ after)) read ∙ ap (λ (i : ℕ). Some i) (sym is)))
 
-operand_stops : (o : Operands) (k : ℕ) (w : List ℕ) (ws : List (List ℕ)) (j : ℕ) → operands_stop o k w ws ≡ Some j → OperandStops o k w ws j
+operand_stops : (o : OperandCount) (k : ℕ) (w : List ℕ) (ws : List (List ℕ)) (j : ℕ) → operands_stop o k w ws ≡ Some j → OperandStops o k w ws j
 operand_stops (Exactly n) k w ws j h = elim (cases_Bool (n == 0)) [
   | inl e ↦ let so = exactly_past k n w ws e in let is : j ≡ k = cc in inl (is, λ after. sym (exactly_past k n w after e) ∙ ap (λ (i : ℕ). Some i) (sym is))
   | inr e ↦ elim (cases_Bool (length w == 0)) [

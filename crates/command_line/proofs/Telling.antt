@@ -12,7 +12,7 @@ use Rattle.std.proofs.lemmas.List.Sums.{AllPass-from_list_all}
 use Rattle.command_line.specs.declared.table.Verb.{Verb}
 use Rattle.command_line.specs.declared.table.Name.{Name}
 use Rattle.command_line.specs.declared.command.Command.{Command}
-use Rattle.command_line.specs.Table.{name_word, names_of, verb_word, verb_named, name_of, required_of, Value, Nothing, AWord, ANumber, OneOf, value_of_name, Operands, Exactly, AtMost, AtLeast, Number, operands_of}
+use Rattle.command_line.specs.Table.{name_word, names_of, verb_word, verb_named, name_of, required_of, OptionValue, Nothing, AWord, ANumber, OneOf, value_of_name, OperandCount, Exactly, AtMost, AtLeast, Number, operands_of}
 use Rattle.command_line.specs.Command.{is_option, given, with_value, none_given, is_taken, has_required, is_flag, meaning, made, exactly_at, at_most_at, at_least_at, past_number, number_from, operands_stop, operand_number, unless_stopped, operands_at, words_at, command_of}
 use Rattle.command_line.specs.Grammar.{Chosen, words_chosen, Means, AreChosen, IsNoneOf, AreOnce, values_from, AreOperands, BeginsWithNoOption, IsCommand}
 use Rattle.command_line.proofs.Numbers.{number-means}
@@ -72,7 +72,7 @@ number_words from to k w ws None read h = absurd (cc)
 number_words from to k w [] (Some n) read h = (w, refl, number-means from to w n read)
 number_words from to k w (more ∷ ws) (Some n) read h = absurd (cc)
 
-operand_words : (o : Operands) (k : ℕ) (w : List ℕ) (ws : List (List ℕ)) → operands_stop o k w ws ≡ None → AreOperands o (w ∷ ws) (operand_number o w ws)
+operand_words : (o : OperandCount) (k : ℕ) (w : List ℕ) (ws : List (List ℕ)) → operands_stop o k w ws ≡ None → AreOperands o (w ∷ ws) (operand_number o w ws)
 operand_words (Exactly m) k w ws h = let is = exactly_words k m (w ∷ ws) h in (is.0, is.1, refl)
 operand_words (AtMost m) k w ws h = let is = at_most_words k m (w ∷ ws) h in (omega arith, is.0, is.1, omega arith)
 operand_words (AtLeast m) k w ws h = let is = at_least_words k m (w ∷ ws) h in (is.0, is.1, refl)
@@ -180,7 +180,7 @@ told_option verb k values word rest command (Some name) full named h plain value
           ]
     ]
   where
-    flag_means : (v : Value) (k : ℕ) → is_flag v ≡ true → Means v k None 1
+    flag_means : (v : OptionValue) (k : ℕ) → is_flag v ≡ true → Means v k None 1
     flag_means Nothing k f = refl
     flag_means AWord k f = absurd (cc)
     flag_means (ANumber from to) k f = absurd (cc)

@@ -14,7 +14,8 @@ use Rattle.command_line.specs.declared.table.Name.TheVariants.{Main, Method, All
 use Rattle.command_line.specs.declared.command.Settings.{Settings}
 use Rattle.command_line.specs.declared.command.Command.{Command}
 use Rattle.command_line.specs.declared.command.Command.TheVariants as commands
-use Rattle.command_line.specs.Table.{place_of, Value, Nothing, AWord, ANumber, OneOf, value_of_name, usual, rivals, required_of, Operands, Exactly, AtMost}
+use Rattle.command_line.specs.Table.{place_of, OptionValue, Nothing, AWord, ANumber, OneOf, value_of_name, usual, rivals, required_of, OperandCount, Exactly}
+use Rattle.command_line.specs.Table.{AtMost}
 use Rattle.command_line.specs.Table.{AtLeast, Number, operands_of, verb_named, name_of}
 
 -- the bytes of the words
@@ -37,7 +38,7 @@ abbrev pub number_from : (from to : ℕ) → List ℕ → Option ℕ
 number_from from to text = if is_number text && nat_le from (value_of text) && nat_le (value_of text) to then Some (value_of text) else None
 
 -- What a value means: a word is meant by its number, and isn't empty.
-abbrev pub meaning : Value → (k : ℕ) → (word : List ℕ) → Option ℕ
+abbrev pub meaning : OptionValue → (k : ℕ) → (word : List ℕ) → Option ℕ
 meaning Nothing k word = None
 meaning AWord k word = if length word == 0 then None else Some k
 meaning (ANumber from to) k word = number_from from to word
@@ -121,14 +122,14 @@ past_number k (Some n) [] = None
 past_number k (Some n) (more ∷ rest) = Some (k + 1)
 
 -- the first word at which the operands stop being those, from word k on
-abbrev pub operands_stop : Operands → (k : ℕ) → (operand : List ℕ) → (rest : List (List ℕ)) → Option ℕ
+abbrev pub operands_stop : OperandCount → (k : ℕ) → (operand : List ℕ) → (rest : List (List ℕ)) → Option ℕ
 operands_stop (Exactly n) k operand rest = exactly_at k n (operand ∷ rest)
 operands_stop (AtMost n) k operand rest = at_most_at k n (operand ∷ rest)
 operands_stop (AtLeast n) k operand rest = at_least_at k n (operand ∷ rest)
 operands_stop (Number from to) k operand rest = past_number k (number_from from to operand) rest
 
 -- the number that the operand is, where it is one, and how many operands there are, where the command leaves that open
-abbrev pub operand_number : Operands → (operand : List ℕ) → (rest : List (List ℕ)) → ℕ
+abbrev pub operand_number : OperandCount → (operand : List ℕ) → (rest : List (List ℕ)) → ℕ
 operand_number (Number from to) operand rest = unwrap_or (number_from from to operand) 0
 operand_number (AtMost n) operand rest = 1 + length rest
 operand_number operands operand rest = 0
@@ -144,12 +145,12 @@ operands_at verb values k operand rest =
     (made verb values k (operand_number (operands_of verb) operand rest)) else Err k
 
 -- how many operands there are at least
-abbrev pub least_operands : Operands → ℕ
+abbrev pub least_operands : OperandCount → ℕ
 least_operands (Exactly n) = n
 least_operands (AtLeast n) = n
 least_operands operands = 1
 
-abbrev pub is_flag : Value → Bool
+abbrev pub is_flag : OptionValue → Bool
 is_flag Nothing = true
 is_flag value = false
 

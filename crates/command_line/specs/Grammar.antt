@@ -8,7 +8,8 @@ use Rattle.ascii_text.specs.Number.{IsDecimalNumber, value_of}
 use Rattle.command_line.specs.declared.table.Verb.{Verb}
 use Rattle.command_line.specs.declared.table.Name.{Name}
 use Rattle.command_line.specs.declared.command.Command.{Command}
-use Rattle.command_line.specs.Table.{name_word, verb_word, names_of, rivals, required_of, Value, Nothing, AWord, ANumber, OneOf, value_of_name, Operands}
+use Rattle.command_line.specs.Table.{name_word, verb_word, names_of, rivals, required_of, OptionValue, Nothing, AWord, ANumber, OneOf, value_of_name}
+use Rattle.command_line.specs.Table.{OperandCount}
 use Rattle.command_line.specs.Table.{Exactly, AtMost, AtLeast, Number, operands_of}
 use Rattle.command_line.specs.Command.{command_of, is_option, none_given, with_value, made}
 
@@ -25,7 +26,7 @@ abbrev pub IsNumberFrom : (from to : ℕ) → (word : List ℕ) → ℕ → Type
 IsNumberFrom from to word n = IsDecimalNumber word × (n ≡ value_of word) × (from ≤ n) × (n ≤ to)
 
 -- what a value means that is word k
-abbrev pub Means : Value → (k : ℕ) → Option (List ℕ) → ℕ → Type 0
+abbrev pub Means : OptionValue → (k : ℕ) → Option (List ℕ) → ℕ → Type 0
 Means Nothing k None n = n ≡ 1
 Means Nothing k (Some word) n = ⊥
 Means value k None n = ⊥
@@ -55,7 +56,7 @@ values_from values [] = values
 values_from values (c ∷ cs) = values_from (with_value values c.name c.means) cs
 
 -- as many operands as the command has, none empty; n is the number that the operand is, or how many there are, where the command leaves that open
-abbrev pub AreOperands : Operands → List (List ℕ) → ℕ → Type 0
+abbrev pub AreOperands : OperandCount → List (List ℕ) → ℕ → Type 0
 AreOperands (Exactly many) words n = (length words ≡ many) × All (λ word. 0 < length word) words × (n ≡ 0)
 AreOperands (AtMost many) words n = (0 < length words) × (length words ≤ many) × All (λ word. 0 < length word) words × (n ≡ length words)
 AreOperands (AtLeast many) words n = (many ≤ length words) × All (λ word. 0 < length word) words × (n ≡ 0)

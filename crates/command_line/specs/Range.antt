@@ -17,23 +17,23 @@ pub record AreSettings (settings : Settings) : Type 0 where
   pub read_most : settings.read ≤ 63
   pub write_most : settings.write ≤ 63
 
-abbrev pub AreInRange : Command → Type 0
-AreInRange (Link main first) = Unit {0}
-AreInRange (Run settings image) = AreSettings settings
-AreInRange (Trace settings micro image) = AreSettings settings
-AreInRange (Profile settings image bounds) = AreSettings settings
-AreInRange (Bound settings method image bounds) = AreSettings settings
-AreInRange (BoundAll settings image bounds) = AreSettings settings
-AreInRange (BoundShapes settings method image bounds) = AreSettings settings
-AreInRange (Report settings method image bounds) = AreSettings settings
-AreInRange (Plan settings rounds table bounds first) = AreSettings settings × (1 ≤ rounds) × (rounds ≤ 32767)
-AreInRange (Cycle settings rounds table first) = AreSettings settings × (1 ≤ rounds) × (rounds ≤ 32767)
-AreInRange (Check settings image bounds certificate) = AreSettings settings
-AreInRange (Loops image) = Unit {0}
-AreInRange (Headers image operands) = (1 ≤ operands) × (operands ≤ 2)
-AreInRange (Memory image bounds sizes) = Unit {0}
-AreInRange (Asm text) = Unit {0}
-AreInRange (Work count) = (1 ≤ count) × (count ≤ 1000)
+abbrev pub HasNumbersInRange : Command → Type 0
+HasNumbersInRange (Link main first) = Unit {0}
+HasNumbersInRange (Run settings image) = AreSettings settings
+HasNumbersInRange (Trace settings micro image) = AreSettings settings
+HasNumbersInRange (Profile settings image bounds) = AreSettings settings
+HasNumbersInRange (Bound settings method image bounds) = AreSettings settings
+HasNumbersInRange (BoundAll settings image bounds) = AreSettings settings
+HasNumbersInRange (BoundShapes settings method image bounds) = AreSettings settings
+HasNumbersInRange (Report settings method image bounds) = AreSettings settings
+HasNumbersInRange (Plan settings rounds table bounds first) = AreSettings settings × (1 ≤ rounds) × (rounds ≤ 32767)
+HasNumbersInRange (Cycle settings rounds table first) = AreSettings settings × (1 ≤ rounds) × (rounds ≤ 32767)
+HasNumbersInRange (Check settings image bounds certificate) = AreSettings settings
+HasNumbersInRange (Loops image) = Unit {0}
+HasNumbersInRange (Headers image operands) = (1 ≤ operands) × (operands ≤ 2)
+HasNumbersInRange (Memory image bounds sizes) = Unit {0}
+HasNumbersInRange (Asm text) = Unit {0}
+HasNumbersInRange (Work count) = (1 ≤ count) × (count ≤ 1000)
 
 -- each word that the command means by its number is one of so many
 abbrev pub AreThere : (n : ℕ) → Command → Type 0

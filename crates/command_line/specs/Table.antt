@@ -56,13 +56,13 @@ rivals BlockWords = BlockWords ∷ Shapes ∷ []
 rivals name = name ∷ []
 
 -- what an option takes: nothing, a word, a number from one to another, or one of some numbers
-pub data Value : Type 0 where
-  Nothing : Value
-  AWord : Value
-  ANumber : (from to : ℕ) → Value
-  OneOf : List ℕ → Value
+pub data OptionValue : Type 0 where
+  Nothing : OptionValue
+  AWord : OptionValue
+  ANumber : (from to : ℕ) → OptionValue
+  OneOf : List ℕ → OptionValue
 
-abbrev pub value_of_name : Name → Value
+abbrev pub value_of_name : Name → OptionValue
 value_of_name Main = AWord
 value_of_name Method = AWord
 value_of_name All = Nothing
@@ -142,13 +142,13 @@ required_of Cycle = (Rounds ∷ []) ∷ []
 required_of verb = []
 
 -- what operands a command has: so many, one to so many, so many or more, or a number from one to another
-pub data Operands : Type 0 where
-  Exactly : ℕ → Operands
-  AtMost : ℕ → Operands
-  AtLeast : ℕ → Operands
-  Number : (from to : ℕ) → Operands
+pub data OperandCount : Type 0 where
+  Exactly : ℕ → OperandCount
+  AtMost : ℕ → OperandCount
+  AtLeast : ℕ → OperandCount
+  Number : (from to : ℕ) → OperandCount
 
-abbrev pub operands_of : Verb → Operands
+abbrev pub operands_of : Verb → OperandCount
 operands_of Link = AtLeast 1
 operands_of Run = Exactly 1
 operands_of Trace = Exactly 1

@@ -3,7 +3,7 @@ ghost use Rattle.std.specs.Prelude.{◌≡◌, ◌+◌, ◌<◌, ◌≤◌, ◌^
 ghost use Rattle.command_line.specs.Command.{texts, is_option, none_given, exactly_at, at_most_at, at_least_at, made, operands_at, operands_stop};
 ghost use Rattle.command_line.specs.Command.{operand_number, least_operands, words_at, command_of};
 ghost use Rattle.command_line.specs.Given.{values_of};
-ghost use Rattle.command_line.specs.Range.{AreInRange, AreThere, OperandsFollow};
+ghost use Rattle.command_line.specs.Range.{HasNumbersInRange, AreThere, OperandsFollow};
 ghost use Rattle.command_line.specs.Table.{Number, operands_of};
 
 use crate::command::Command;
@@ -22,7 +22,7 @@ fn is_option(word: &str) -> bool
 pub fn read_words(words: &[&str]) -> Result<Command, u32>
     requires { length words.now < 2 ^ 32 }
     ensures exact { result ≡ command_of (texts words.now) }
-    ensures ranges { IfOk result AreInRange }
+    ensures ranges { IfOk result HasNumbersInRange }
     ensures there { IfOk result (AreThere (length words.now)) }
     ensures order { IfOk result OperandsFollow }
 {

@@ -33,15 +33,15 @@ unbroken r (g, s) = let U : Result Boundary DeviceFault → Type 0 = λ mode. Is
 
 -- ---- what is shown
 
-pub as_output : (limit : ℕ) (r : Session) (now : machine.State) (old new : Lent) (end : Result RunEnd DeviceFault) → RunsAll limit r.machine now (wired old) (wired new) end → RunsAsAll Output limit r now old new end
+pub as_output : (limit : ℕ) (r : Session) (now : machine.MachineState) (old new : Lent) (end : Result RunEnd DeviceFault) → RunsAll limit r.machine now (wired old) (wired new) end → RunsAsAll Output limit r now old new end
 unfolding RunsAll
 as_output limit r now old new end all g s is = all g s is.is_setting is.stands
 
-pub as_shown : (show : NamedShow) (limit : ℕ) (r : Session) (now : machine.State) (old new : Lent) (end : Result RunEnd DeviceFault) → show ≡ shows.Output → RunsAll limit r.machine now (wired old) (wired new) end → RunsAsAll (shown_by show) limit r now old new end
+pub as_shown : (show : NamedShow) (limit : ℕ) (r : Session) (now : machine.MachineState) (old new : Lent) (end : Result RunEnd DeviceFault) → show ≡ shows.Output → RunsAll limit r.machine now (wired old) (wired new) end → RunsAsAll (shown_by show) limit r now old new end
 as_shown show limit r now old new end is all = subst (λ (x : NamedShow). RunsAsAll (shown_by x) limit r now old new end) (sym is) (as_output limit r now old new end all)
 
 -- so many faults were counted at the start, and these things told
-pub as_trace : (names : List (List ℕ)) (limit : ℕ) (r : Session) (now : machine.State) (cycles k : Bool) (left l : Option (List ℕ)) (reads rd : ℕ) (held h : Option (List ℕ)) (faults w s : ℕ) (watch : Option (List Seen)) (after : Told) (new : Lent) (end : Result RunEnd DeviceFault)
+pub as_trace : (names : List (List ℕ)) (limit : ℕ) (r : Session) (now : machine.MachineState) (cycles k : Bool) (left l : Option (List ℕ)) (reads rd : ℕ) (held h : Option (List ℕ)) (faults w s : ℕ) (watch : Option (List Seen)) (after : Told) (new : Lent) (end : Result RunEnd DeviceFault)
     → k ≡ cycles → l ≡ left → rd ≡ reads → h ≡ held → w ≡ faults → s ≡ faults → after.left ≡ new.left → after.read_faults ≡ new.read_faults → after.noted ≡ new.held → after.write_faults ≤ new.write_faults
     → after.seen_faults ≤ new.write_faults → new.handed ≡ watch → TracesAll k names limit r now (traced k l rd h w s) after end → RunsAsAll (Trace cycles names) limit r now (lent left reads held faults watch) new end
 unfolding TracesAll
@@ -57,13 +57,13 @@ as_trace names limit r now cycles k left l reads rd held h faults w s watch afte
 -- ---- the run
 
 -- the run is one from where it began
-pub runs_to : (shown : Shown) (g : Setting) (r : Session) (now : machine.State) (limit : ℕ) (old new : Lent) (end : Result RunEnd DeviceFault) → Started g r.machine r → RunsAsAll shown limit r now old new end → RunsFromReset shown g r.machine limit end old new
+pub runs_to : (shown : Shown) (g : Setting) (r : Session) (now : machine.MachineState) (limit : ℕ) (old new : Lent) (end : Result RunEnd DeviceFault) → Started g r.machine r → RunsAsAll shown limit r now old new end → RunsFromReset shown g r.machine limit end old new
 runs_to shown g r now limit old new end s all =
     record { is_setting = s.is_setting; boot = s.begins.boot; is_boot = s.begins.is_boot; now = now; runs = all g s.begins.boot (record { is_setting = s.is_setting; methods_are = s.methods; stands = s.begins.stands }) }
 
 -- ---- counts of faults
 
-pub reads_rose : (shown : Shown) (g : Setting) (reset : machine.State) (limit : ℕ) (old new : Lent) → RunsFromReset shown g reset limit (Err faults.Input) old new → Rose old.read_faults new.read_faults
+pub reads_rose : (shown : Shown) (g : Setting) (reset : machine.MachineState) (limit : ℕ) (old new : Lent) → RunsFromReset shown g reset limit (Err faults.Input) old new → Rose old.read_faults new.read_faults
 reads_rose Output g reset limit old new r =
     let x = r.runs in
     omega (arith, x.fails.broke.tried.5, x.fails.broke.ran.device.counts.reads, x.run.ran.device.counts.reads)
@@ -72,11 +72,11 @@ reads_rose (Trace cycles names) g reset limit old new r =
     omega (arith, x.fails.holds.broke.tried.5, x.fails.holds.broke.ran.device.counts.reads, x.fails.line.rests.counts.reads, x.traced.run.ran.device.counts.reads, r.runs.reads)
 
 -- a line that fails was counted
-fails_rose : (names : List (List ℕ)) (g : Setting) (a : Stage) (now : machine.State) (told told' : Told) → OutputFails names g a now told told' → Rose told.write_faults told'.write_faults
+fails_rose : (names : List (List ℕ)) (g : Setting) (a : Stage) (now : machine.MachineState) (told told' : Told) → OutputFails names g a now told told' → Rose told.write_faults told'.write_faults
 fails_rose names g a now told told' (AtBoundary same line) = line.rose
 fails_rose names g a now told told' (AtWrite after) = omega (arith, after.holds.broke.tried.5, after.holds.broke.ran.device.counts.writes, after.line.rests.counts.writes)
 
-writes_rose : (shown : Shown) (g : Setting) (reset : machine.State) (limit : ℕ) (old new : Lent) → RunsFromReset shown g reset limit (Err faults.Output) old new → Rose old.write_faults new.write_faults
+writes_rose : (shown : Shown) (g : Setting) (reset : machine.MachineState) (limit : ℕ) (old new : Lent) → RunsFromReset shown g reset limit (Err faults.Output) old new → Rose old.write_faults new.write_faults
 writes_rose Output g reset limit old new r =
     let x = r.runs in
     omega (arith, x.fails.broke.tried.5, x.fails.broke.ran.device.counts.writes, x.run.ran.device.counts.writes)
@@ -85,7 +85,7 @@ writes_rose (Trace cycles names) g reset limit old new r =
     omega (arith, fails_rose names g x.last r.now x.before r.runs.after x.fails, x.traced.run.ran.device.counts.writes, r.runs.writes)
 
 -- a watch doesn't fail, and a line of a cycle is one of the output
-sees_rose : (shown : Shown) (g : Setting) (reset : machine.State) (limit : ℕ) (old new : Lent) → RunsFromReset shown g reset limit (Err faults.Seen) old new → Rose old.write_faults new.write_faults
+sees_rose : (shown : Shown) (g : Setting) (reset : machine.MachineState) (limit : ℕ) (old new : Lent) → RunsFromReset shown g reset limit (Err faults.Seen) old new → Rose old.write_faults new.write_faults
 sees_rose Output g reset limit old new r =
     let x = r.runs in
     absurd (omega (arith, x.fails.broke.tried.4, x.fails.broke.ran.device.counts.sees, x.run.ran.device.counts.sees))
@@ -93,7 +93,7 @@ sees_rose (Trace cycles names) g reset limit old new r =
     let x = r.runs.traces in
     omega (arith, x.fails.holds.broke.tried.4, x.fails.holds.broke.ran.device.counts.sees, x.fails.line.rests.counts.sees, x.traced.run.ran.device.counts.sees, r.runs.sees)
 
-pub has_risen : (shown : Shown) (g : Setting) (reset : machine.State) (limit : ℕ) (old new : Lent) (end : Result RunEnd DeviceFault) → RunsFromReset shown g reset limit end old new → HasRisen end old new
+pub has_risen : (shown : Shown) (g : Setting) (reset : machine.MachineState) (limit : ℕ) (old new : Lent) (end : Result RunEnd DeviceFault) → RunsFromReset shown g reset limit end old new → HasRisen end old new
 has_risen shown g reset limit old new (Ok end) r = tt
 has_risen shown g reset limit old new (Err faults.Input) r = reads_rose shown g reset limit old new r
 has_risen shown g reset limit old new (Err faults.Output) r = writes_rose shown g reset limit old new r
@@ -101,7 +101,7 @@ has_risen shown g reset limit old new (Err faults.Seen) r = sees_rose shown g re
 
 -- ---- how the program ended
 
-pub ran_so : (shown : Shown) (g : Setting) (r : Session) (now read : machine.State) (limit : ℕ) (old new : Lent) (end : Result RunEnd DeviceFault) (counts : Counts) → Started g r.machine r → RunsAsAll shown limit r now old new end
+pub ran_so : (shown : Shown) (g : Setting) (r : Session) (now read : machine.MachineState) (limit : ℕ) (old new : Lent) (end : Result RunEnd DeviceFault) (counts : Counts) → Started g r.machine r → RunsAsAll shown limit r now old new end
     → read ≡ now → AreCounts counts read → Ran shown g r.machine limit old new (record { end = end; counts = counts })
 unfolding runs_to
 ran_so shown g r now read limit old new end counts s all same are =
@@ -110,7 +110,7 @@ ran_so shown g r now read limit old new end counts s all same are =
 
 -- ---- the class that isn't caught
 
-pub class_there : UncaughtClassesAreThere → (shown : Shown) (cs : List ClassFile) (n memory : ℕ) (reset : machine.State) (limit : ℕ) (old new : Lent) (end : Result RunEnd DeviceFault)
+pub class_there : UncaughtClassesAreThere → (shown : Shown) (cs : List ClassFile) (n memory : ℕ) (reset : machine.MachineState) (limit : ℕ) (old new : Lent) (end : Result RunEnd DeviceFault)
     → RunsFromReset shown (linked_setting cs n memory) reset limit end old new → HasClass cs end
 class_there law Output cs n memory reset limit old new (Ok (ends.Uncaught class)) r =
     let x = r.runs in
@@ -124,12 +124,12 @@ class_there law shown cs n memory reset limit old new (Err fault) r = tt
 
 -- ---- where it began
 
-restarted : (g : Setting) (reset : machine.State) (r : Session) → Started g reset r → Started g r.machine r
+restarted : (g : Setting) (reset : machine.MachineState) (r : Session) → Started g reset r → Started g r.machine r
 restarted g reset r s = record { is_setting = s.is_setting; methods = s.methods; machine_is = refl; mode = s.mode; begins = subst (Begins g) (sym s.machine_is) s.begins }
 
-pub has_restarted : (g : Setting) (reset : machine.State) (r : Session) → Started g reset r → HasStarted r
+pub has_restarted : (g : Setting) (reset : machine.MachineState) (r : Session) → Started g reset r → HasStarted r
 has_restarted g reset r s = (g, restarted g reset r s)
 
-pub ran_from : (shown : Shown) (g : Setting) (reset : machine.State) (r : Session) (limit : ℕ) (old new : Lent) (end : ProgramEnd) → Started g reset r
+pub ran_from : (shown : Shown) (g : Setting) (reset : machine.MachineState) (r : Session) (limit : ℕ) (old new : Lent) (end : ProgramEnd) → Started g reset r
     → ((h : Setting) → Started h r.machine r → Ran shown h r.machine limit old new end) → Ran shown g reset limit old new end
-ran_from shown g reset r limit old new end s ran = subst (λ (m : machine.State). Ran shown g m limit old new end) s.machine_is (ran g (restarted g reset r s))
+ran_from shown g reset r limit old new end s ran = subst (λ (m : machine.MachineState). Ran shown g m limit old new end) s.machine_is (ran g (restarted g reset r s))

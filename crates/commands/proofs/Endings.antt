@@ -13,7 +13,7 @@ use Rattle.image_file.specs.Linked as file
 use Rattle.jopizer.specs.declared.refusal.LinkRefusal.{LinkRefusal}
 use Rattle.jopizer.specs.declared.refusal.LinkRefusal.TheVariants as refusals
 use Rattle.jopizer.specs.declared.fault.ImageFault.TheVariants.{Link}
-use Rattle.jopizer.specs.Images.{IsWrong, IsWrongIn}
+use Rattle.jopizer.specs.Images.{IsWrongImage, IsWrongIn}
 use Rattle.jopizer.specs.Refused.{IsLinkRefusal}
 use Rattle.commands.specs.declared.outcome.Ending.{Ending}
 use Rattle.commands.specs.declared.outcome.Ending.TheVariants as endings
@@ -63,7 +63,7 @@ faulty bytes image endings.InputFault is fault = absurd fault
 faulty bytes image endings.WriteFault is fault = absurd fault
 
 -- the image that was read of the bytes is the one whose files are refused
-pub refused : OneImage → (bytes : List ℕ) (image : LinkedContent) (refusal : LinkRefusal) (files : List (List ℕ)) (ending : Ending) → file.IsLinkedFile bytes image → files ≡ image.files → IsWrong bytes (Link refusal)
+pub refused : OneImage → (bytes : List ℕ) (image : LinkedContent) (refusal : LinkRefusal) (files : List (List ℕ)) (ending : Ending) → file.IsLinkedFile bytes image → files ≡ image.files → IsWrongImage bytes (Link refusal)
     → ((main : List ℕ) → IsLinkRefusal files main refusal → LinkFault files main ending) → BytesFault bytes ending
 refused one bytes image refusal files ending is same (other, is_other, wrong) told =
     let others : files ≡ other.files = same ∙ ap (λ (x : LinkedContent). x.files) (one bytes image other is is_other) in

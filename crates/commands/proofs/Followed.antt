@@ -25,10 +25,10 @@ use Rattle.commands.specs.declared.program_end.ProgramEnd.{ProgramEnd}
 use Rattle.commands.specs.Phase.{HasSettings}
 use Rattle.commands.specs.Run.{AreCounts, HasRisen, Started}
 use Rattle.commands.specs.LinkedRun.{HasClass, linked_setting}
-use Rattle.commands.specs.Following.{RanSo, Follows, FollowsWith}
+use Rattle.commands.specs.Following.{RanSo, FollowsRun, FollowsWith}
 
-pub follows_so : {F : Type 0} (after : F → Here → F) (g : Setting) (r : Session) (now read : machine.State) (limit : ℕ) (told told' : Told) (first last : F) (end : Result RunEnd DeviceFault) (counts : Counts) → Started g r.machine r
-    → FollowsAll after limit r now told told' first last end → read ≡ now → AreCounts counts read → Follows after g r.machine limit told told' first last (record { end = end; counts = counts })
+pub follows_so : {F : Type 0} (after : F → Here → F) (g : Setting) (r : Session) (now read : machine.MachineState) (limit : ℕ) (told told' : Told) (first last : F) (end : Result RunEnd DeviceFault) (counts : Counts) → Started g r.machine r
+    → FollowsAll after limit r now told told' first last end → read ≡ now → AreCounts counts read → FollowsRun after g r.machine limit told told' first last (record { end = end; counts = counts })
 unfolding FollowsAll
 follows_so after g r now read limit told told' first last end counts s all same are =
     let f = all g s.begins.boot s.is_setting s.begins.stands in
@@ -40,33 +40,33 @@ follows_so after g r now read limit told told' first last end counts s all same 
 
 -- ---- where it began
 
-restarted : (g : Setting) (reset : machine.State) (r : Session) → Started g reset r → Started g r.machine r
-restarted g reset r s = subst (λ (m : machine.State). Started g m r) (sym s.machine_is) s
+restarted : (g : Setting) (reset : machine.MachineState) (r : Session) → Started g reset r → Started g r.machine r
+restarted g reset r s = subst (λ (m : machine.MachineState). Started g m r) (sym s.machine_is) s
 
-pub follows_from : {F : Type 0} (after : F → Here → F) (g : Setting) (reset : machine.State) (r : Session) (limit : ℕ) (told told' : Told) (first last : F) (f : ProgramEnd) → Started g reset r
-    → ((h : Setting) → Started h r.machine r → Follows after h r.machine limit told told' first last f) → Follows after g reset limit told told' first last f
-follows_from after g reset r limit told told' first last f s all = subst (λ (m : machine.State). Follows after g m limit told told' first last f) s.machine_is (all g (restarted g reset r s))
+pub follows_from : {F : Type 0} (after : F → Here → F) (g : Setting) (reset : machine.MachineState) (r : Session) (limit : ℕ) (told told' : Told) (first last : F) (f : ProgramEnd) → Started g reset r
+    → ((h : Setting) → Started h r.machine r → FollowsRun after h r.machine limit told told' first last f) → FollowsRun after g reset limit told told' first last f
+follows_from after g reset r limit told told' first last f s all = subst (λ (m : machine.MachineState). FollowsRun after g m limit told told' first last f) s.machine_is (all g (restarted g reset r s))
 
 -- ---- with settings
 
 pub follows_with : {F E : Type 0} (after : F → Here → F) (s : Settings) (l : Parts) (cs : List ClassFile) (laid : Laid) (n : ℕ) (plan : Plan) (told told' : Told) (first last : F) (r : Result ProgramEnd E) → cs ≡ l.classes → laid ≡ l.laid → s.stack ≡ n
-    → HasSettings s plan.config → plan.limit ≡ s.cycles → IfOk r (Follows after (linked_setting cs n plan.config.memory) (linked_reset n laid.words plan.config) plan.limit told told' first last) → IfOk r (FollowsWith after s l told told' first last)
+    → HasSettings s plan.config → plan.limit ≡ s.cycles → IfOk r (FollowsRun after (linked_setting cs n plan.config.memory) (linked_reset n laid.words plan.config) plan.limit told told' first last) → IfOk r (FollowsWith after s l told told' first last)
 follows_with after s l cs laid n plan told told' first last (Ok f) classes laid_is stack has limit follows =
     let config = plan.config in
-    let a = subst (λ (xs : List ClassFile). Follows after (linked_setting xs n config.memory) (linked_reset n laid.words config) plan.limit told told' first last f) classes follows in
-    let b = subst (λ (x : Laid). Follows after (linked_setting l.classes n config.memory) (linked_reset n x.words config) plan.limit told told' first last f) laid_is a in
-    let c = subst (λ (k : ℕ). Follows after (linked_setting l.classes n config.memory) (linked_reset n l.laid.words config) k told told' first last f) limit b in
+    let a = subst (λ (xs : List ClassFile). FollowsRun after (linked_setting xs n config.memory) (linked_reset n laid.words config) plan.limit told told' first last f) classes follows in
+    let b = subst (λ (x : Laid). FollowsRun after (linked_setting l.classes n config.memory) (linked_reset n x.words config) plan.limit told told' first last f) laid_is a in
+    let c = subst (λ (k : ℕ). FollowsRun after (linked_setting l.classes n config.memory) (linked_reset n l.laid.words config) k told told' first last f) limit b in
     record {
       config = config;
       has = has;
-      follows = subst (λ (k : ℕ). Follows after (linked_setting l.classes k config.memory) (linked_reset k l.laid.words config) s.cycles told told' first last f) (sym stack) c;
+      follows = subst (λ (k : ℕ). FollowsRun after (linked_setting l.classes k config.memory) (linked_reset k l.laid.words config) s.cycles told told' first last f) (sym stack) c;
     }
 follows_with after s l cs laid n plan told told' first last (Err e) classes laid_is stack has limit follows = tt
 
 -- ---- how it ended
 
 -- of an input, an output and a watch that are lent
-module _ (g : Setting) (reset : machine.State) (limit : ℕ) (old new : Lent) where
+module _ (g : Setting) (reset : machine.MachineState) (limit : ℕ) (old new : Lent) where
   rose_by : (end : Result RunEnd DeviceFault) (counts : Counts) → RanSo g reset limit (wired old) (wired new) (record { end = end; counts = counts }) → HasRisen end old new
   rose_by (Ok end) counts r = tt
   rose_by (Err faults.Input) counts r =
@@ -90,7 +90,7 @@ unrisen end old new reads writes risen faults.Output is = writes (subst (λ (e :
 unrisen end old new reads writes risen faults.Seen is = writes (subst (λ (e : Result RunEnd DeviceFault). HasRisen e old new) is risen)
 
 -- a class that isn't caught is one of the program's
-class_by : UncaughtClassesAreThere → (cs : List ClassFile) (n memory : ℕ) (reset : machine.State) (limit : ℕ) (told told' : Told) (end : Result RunEnd DeviceFault) (counts : Counts)
+class_by : UncaughtClassesAreThere → (cs : List ClassFile) (n memory : ℕ) (reset : machine.MachineState) (limit : ℕ) (told told' : Told) (end : Result RunEnd DeviceFault) (counts : Counts)
     → RanSo (linked_setting cs n memory) reset limit told told' (record { end = end; counts = counts }) → HasClass cs end
 class_by law cs n memory reset limit told told' (Ok (ends.Uncaught class)) counts r =
     let x = r.runs in
@@ -99,5 +99,5 @@ class_by law cs n memory reset limit told told' (Ok ends.Ended) counts r = tt
 class_by law cs n memory reset limit told told' (Ok ends.Spent) counts r = tt
 class_by law cs n memory reset limit told told' (Err fault) counts r = tt
 
-pub class_of : UncaughtClassesAreThere → (cs : List ClassFile) (n memory : ℕ) (reset : machine.State) (limit : ℕ) (told told' : Told) (f : ProgramEnd) → RanSo (linked_setting cs n memory) reset limit told told' f → HasClass cs f.end
+pub class_of : UncaughtClassesAreThere → (cs : List ClassFile) (n memory : ℕ) (reset : machine.MachineState) (limit : ℕ) (told told' : Told) (f : ProgramEnd) → RanSo (linked_setting cs n memory) reset limit told told' f → HasClass cs f.end
 class_of law cs n memory reset limit told told' f r = class_by law cs n memory reset limit told told' f.end f.counts r

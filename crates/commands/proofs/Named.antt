@@ -17,11 +17,11 @@ use Rattle.bytecode_model.specs.Program.{body_of}
 use Rattle.commands.specs.declared.show.Show.{Show}
 use Rattle.commands.specs.declared.show.Show.TheVariants as shows
 use Rattle.boundary.specs.Traces.{texts}
-use Rattle.commands.specs.Show.{Shown, AreNamed, linked_shown}
+use Rattle.commands.specs.Show.{Shown, HaveNamesToShow, linked_shown}
 use Rattle.commands.proofs.Endings.{method_there}
 
-pub named_by : (shown : Shown) (methods others : List CodedMethod) → others ≡ methods → AreNamed shown methods → AreNamed shown others
-named_by shown methods others same named = subst (AreNamed shown) (sym same) named
+pub named_by : (shown : Shown) (methods others : List CodedMethod) → others ≡ methods → HaveNamesToShow shown methods → HaveNamesToShow shown others
+named_by shown methods others same named = subst (HaveNamesToShow shown) (sym same) named
 
 -- ---- by number
 
@@ -48,6 +48,6 @@ few by_number cs (e ∷ es) only =
     let has = subst (λ (o : Option CodedMethod). IfSome o (Q (length es))) last (only (length es)) in
     omega (arith, method_there by_number cs (length es) _ has)
 
-pub named : MethodsStandByNumber → (cs : List ClassFile) (show : Show) (methods : List CodedMethod) → AreOnly cs methods → AreNamed (linked_shown cs show) methods
+pub named : MethodsStandByNumber → (cs : List ClassFile) (show : Show) (methods : List CodedMethod) → AreOnly cs methods → HaveNamesToShow (linked_shown cs show) methods
 named by_number cs shows.Output methods only = tt
 named by_number cs (shows.Trace cycles) methods only = omega (arith, few by_number cs methods only, length-map (methods_by_number cs) (method_text cs))

@@ -78,14 +78,14 @@ module _ (stepping : BareImagesStep) (image : BareContent) (grammar : IsBareCont
   never_uncaught steps b class goes holds =
       ⊎_elim (λ e. let clash : Running ≡ Uncaught class = sym e ∙ holds in cc) (λ e. let clash : Ended ≡ Uncaught class = sym e ∙ holds in cc) (calm steps b goes)
 
-  uncaught_not : (shown : Shown) (now : machine.State) (old new : Lent) (class : ℕ) → RunsAs shown g limit a now old new (Ok (ends.Uncaught class)) → ⊥
+  uncaught_not : (shown : Shown) (now : machine.MachineState) (old new : Lent) (class : ℕ) → RunsAs shown g limit a now old new (Ok (ends.Uncaught class)) → ⊥
   uncaught_not Output now old new class r = never_uncaught r.run.steps r.last class r.run.stages r.holds
   uncaught_not (Trace cycles names) now old new class r = let x = r.traces in never_uncaught x.traced.run.steps x.last class x.traced.run.stages x.holds
 
 -- ---- how it ends
 
 -- no object isn't caught
-pub none_uncaught : BareImagesStep → (image : BareContent) → IsBareContent image → (shown : Shown) (n memory : ℕ) (reset : machine.State) (limit : ℕ) (old new : Lent) (p : ProgramEnd) (class : ℕ) → p.end ≡ Ok (ends.Uncaught class)
+pub none_uncaught : BareImagesStep → (image : BareContent) → IsBareContent image → (shown : Shown) (n memory : ℕ) (reset : machine.MachineState) (limit : ℕ) (old new : Lent) (p : ProgramEnd) (class : ℕ) → p.end ≡ Ok (ends.Uncaught class)
     → run.Ran shown (bare_setting image n memory) reset limit old new p → ⊥
 none_uncaught stepping image grammar shown n memory reset limit old new p class is ran =
     let g = bare_setting image n memory in
@@ -94,20 +94,20 @@ none_uncaught stepping image grammar shown n memory reset limit old new p class 
     uncaught_not stepping image grammar n memory limit (record { machine = reset; state = r.boot }) (boot_runs g.program r.boot r.is_boot) shown r.now old new class r.runs
 
 -- a call that fails is one on the output, where the input has ended
-by_fault : (shown : Shown) (g : Setting) (reset : machine.State) (limit : ℕ) (old new : Lent) (fault : DeviceFault) (counts : Counts) (ending : Ending) → new.read_faults ≡ 0 → ending ≡ run.fault_ending fault
+by_fault : (shown : Shown) (g : Setting) (reset : machine.MachineState) (limit : ℕ) (old new : Lent) (fault : DeviceFault) (counts : Counts) (ending : Ending) → new.read_faults ≡ 0 → ending ≡ run.fault_ending fault
     → run.Ran shown g reset limit old new (run.failed fault counts) → RanImage shown g reset limit old new ending
 by_fault shown g reset limit old new faults.Input counts ending none says ran = absurd (omega (arith, none, ran.rose))
 by_fault shown g reset limit old new faults.Output counts ending none says ran = subst (RanImage shown g reset limit old new) (sym says) (record { fault = faults.Output; says = refl; counts = counts; ran = ran })
 by_fault shown g reset limit old new faults.Seen counts ending none says ran = subst (RanImage shown g reset limit old new) (sym says) (record { fault = faults.Seen; says = refl; counts = counts; ran = ran })
 
-pub to_fault : (shown : Shown) (g : Setting) (reset : machine.State) (limit : ℕ) (old new : Lent) (p : ProgramEnd) (fault : DeviceFault) (ending : Ending) → p.end ≡ Err fault → new.read_faults ≡ 0 → ending ≡ run.fault_ending fault
+pub to_fault : (shown : Shown) (g : Setting) (reset : machine.MachineState) (limit : ℕ) (old new : Lent) (p : ProgramEnd) (fault : DeviceFault) (ending : Ending) → p.end ≡ Err fault → new.read_faults ≡ 0 → ending ≡ run.fault_ending fault
     → run.Ran shown g reset limit old new p → RanImage shown g reset limit old new ending
 to_fault shown g reset limit old new p fault ending is none says ran =
     let R : Result RunEnd DeviceFault → Type 0 = λ end. run.Ran shown g reset limit old new (record { end = end; counts = p.counts }) in
     by_fault shown g reset limit old new fault p.counts ending none says (subst R is ran)
 
 -- it ended so
-pub to_end : (shown : Shown) (g : Setting) (reset : machine.State) (limit : ℕ) (old new : Lent) (p : ProgramEnd) (end : RunEnd) → p.end ≡ Ok end → run.Ran shown g reset limit old new p → run.Ran shown g reset limit old new (run.ended end p.counts)
+pub to_end : (shown : Shown) (g : Setting) (reset : machine.MachineState) (limit : ℕ) (old new : Lent) (p : ProgramEnd) (end : RunEnd) → p.end ≡ Ok end → run.Ran shown g reset limit old new p → run.Ran shown g reset limit old new (run.ended end p.counts)
 to_end shown g reset limit old new p end is ran =
     let R : Result RunEnd DeviceFault → Type 0 = λ e. run.Ran shown g reset limit old new (record { end = e; counts = p.counts }) in
     subst R is ran

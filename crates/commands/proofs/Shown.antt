@@ -10,9 +10,9 @@ use Rattle.analysis_commands.specs.Analysis.{timing_of, bounds_of}
 use Rattle.analysis_commands.specs.Bounding.{IsCertText}
 use Rattle.analysis_commands.specs.Checking.{IsHeld}
 use Rattle.commands.specs.Bounding.{Bounds}
-use Rattle.commands.specs.Checking.{Shows}
+use Rattle.commands.specs.Checking.{ShowsBound}
 
-pub shown : (cs : List ClassFile) (s : Settings) (bounds_text cert_text : List ℕ) (h : Held) → CertificatesAreSound → s.read ≤ 63 → s.write ≤ 63 → IsHeld cs s bounds_text cert_text h → Shows cs s bounds_text cert_text h
+pub shown : (cs : List ClassFile) (s : Settings) (bounds_text cert_text : List ℕ) (h : Held) → CertificatesAreSound → s.read ≤ 63 → s.write ≤ 63 → IsHeld cs s bounds_text cert_text h → ShowsBound cs s bounds_text cert_text h
 shown cs s bounds_text cert_text h sound read write k =
     let kept = sound (resolved cs) (timing_of s) (bounds_of cs k.bounds) k.certificate read write k.meets in
     let of_root = subst (λ (m : ℕ). BoundsActivations (resolved cs) (timing_of s) (bounds_of cs k.bounds) m k.certificate.bound) (sym k.root) kept in

@@ -26,7 +26,7 @@ use Rattle.commands.specs.declared.outcome.Ending.{Ending}
 use Rattle.commands.specs.declared.outcome.Ending.TheVariants as endings
 use Rattle.commands.specs.World.{World}
 use Rattle.commands.specs.Leaving.{FailsRisen}
-use Rattle.commands.specs.Working.{IsWork, usual_settings, Returned, IsMainBound, ForbidsMain, ForbidsAs, IsWorkLine, PutsLine, PutsLineFront, NotWorked, Works}
+use Rattle.commands.specs.Working.{IsWork, usual_settings, Returned, IsMainBound, ForbidsMain, ForbidsAs, IsWorkLine, PutsWholeLine, PutsLineFront, NotWorked, Works}
 
 -- what holds of a program with settings and a text holds of these that they are
 pub as_usual : (R : List ClassFile → Settings → List ℕ → Type 0) (n : ℕ) (had cs : List ClassFile) (s : Settings) (text : List ℕ) → had ≡ cs → s ≡ usual_settings → text ≡ bounds_text n → R had s text → R cs usual_settings (bounds_text n)
@@ -70,7 +70,7 @@ module _ (n : ℕ) (few : n ≤ 1000) (only : OnlyTheseAreRead) (cs : List Class
 pub forbidden_work : (n : ℕ) (l : Parts) (output : List ℕ) (counts : Counts) (ending : Ending) → IsWork n l → Returned l output counts → ForbidsAs n l.classes ending → NotWorked n ending
 forbidden_work n l output counts ending is returned forbids = inr (inr (record { linked = l; is = is; output = output; counts = counts; returned = returned; forbids = forbids }))
 
-pub puts_whole : (n : ℕ) (line bytes : List ℕ) (old new : Option (List ℕ)) (before now : ℕ) → bytes ≡ line → IsWorkLine n line → Grew old new bytes → before ≤ now → PutsLine n old new before now
+pub puts_whole : (n : ℕ) (line bytes : List ℕ) (old new : Option (List ℕ)) (before now : ℕ) → bytes ≡ line → IsWorkLine n line → Grew old new bytes → before ≤ now → PutsWholeLine n old new before now
 puts_whole n line bytes old new before now same is put later = record { line = bytes; is = subst (IsWorkLine n) (sym same) is; put = put; later = later }
 
 pub puts_front : (n : ℕ) (line bytes : List ℕ) (old new : Option (List ℕ)) (before now : ℕ) → bytes ≡ line → IsWorkLine n line → (k : ℕ) × (k < length bytes) × Grew old new (take k bytes) → Rose before now → PutsLineFront n old new before now

@@ -28,7 +28,7 @@ abbrev pub blocks_of_code : Settings → BareContent → ℕ
 blocks_of_code settings image = blocks_for settings.block_words (words_for (length image.code))
 
 -- How the run of a bare image ends: no class is uncaught, and the input isn't asked.
-abbrev pub RanImage : Shown → (g : Setting) → (reset : machine.State) → (limit : ℕ) → (old new : Lent) → Ending → Type 0
+abbrev pub RanImage : Shown → (g : Setting) → (reset : machine.MachineState) → (limit : ℕ) → (old new : Lent) → Ending → Type 0
 RanImage shown g reset limit old new (Ended counts) = run.Ran shown g reset limit old new (run.ended ends.Ended counts)
 RanImage shown g reset limit old new (Spent counts) = run.Ran shown g reset limit old new (run.ended ends.Spent counts)
 RanImage shown g reset limit old new WriteFault = run.RanToFault shown g reset limit old new WriteFault

@@ -34,14 +34,14 @@ refusal_ending s check.NoMemory = NoMemory
 
 -- What holds of the program and of the machine: the certificate of the text meets its conditions, so each ended activation of its method that keeps
 -- the bounds takes at most as many cycles as it says, whatever the method cache held.
-pub record Shows (cs : List ClassFile) (s : Settings) (bounds_text cert_text : List ℕ) (h : Held) : Type 0 where
+pub record ShowsBound (cs : List ClassFile) (s : Settings) (bounds_text cert_text : List ℕ) (h : Held) : Type 0 where
   pub meets : IsHeld cs s bounds_text cert_text h
   pub holds : BoundsActivations (resolved cs) (timing_of s) (bounds_of cs meets.bounds) h.root h.bound
 
 -- this holds, and the ending says it
 pub record EndsHeld (cs : List ClassFile) (s : Settings) (bounds_text cert_text : List ℕ) (ending : Ending) : Type 0 where
   pub held : Held
-  pub shows : Shows cs s bounds_text cert_text held
+  pub shows : ShowsBound cs s bounds_text cert_text held
   pub says : ending ≡ Holds held
 
 -- this refuses the method, the bounds or the certificate, and the ending says it

@@ -22,26 +22,27 @@ use Rattle.commands.specs.LinkedRun.{linked_setting}
 -- ---- the run
 
 -- From reset, and from the boot state, the machine and the program ran to this end, and these are the machine's counts there.
-pub record RanSo (g : Setting) (reset : machine.State) (limit : ℕ) (told told' : Told) (f : ProgramEnd) : Type 0 where
+pub record RanSo (g : Setting) (reset : machine.MachineState) (limit : ℕ) (told told' : Told) (f : ProgramEnd) : Type 0 where
   pub is_setting : IsSetting g
   pub boot : State
   pub is_boot : boot_state g.program ≡ Some boot
-  pub now : machine.State
+  pub now : machine.MachineState
   pub runs : RunsTo g limit (record { machine = reset; state = boot }) now told told' f.end
   pub counts : AreCounts f.counts now
 
 -- its boundaries, from reset to the last one
-abbrev pub run_stages : (g : Setting) → (reset : machine.State) → (limit : ℕ) → (told told' : Told) → (f : ProgramEnd)
+abbrev pub run_stages : (g : Setting) → (reset : machine.MachineState) → (limit : ℕ) → (told told' : Told) → (f : ProgramEnd)
     → RanSo g reset limit told told' f → List Stage
 run_stages g reset limit told told' f r = stages_of g limit (record { machine = reset; state = r.boot }) r.now told told' f.end r.runs
 
 -- all that is seen of it there
-abbrev pub heres_of : (g : Setting) → (reset : machine.State) → (limit : ℕ) → (told told' : Told) → (f : ProgramEnd)
+abbrev pub heres_of : (g : Setting) → (reset : machine.MachineState) → (limit : ℕ) → (told told' : Told) → (f : ProgramEnd)
     → RanSo g reset limit told told' f → List Here
 heres_of g reset limit told told' f r = seen_of g limit (record { machine = reset; state = r.boot }) r.now told told' f.end r.runs
 
 -- and over all of that the follower came from one to the other
-pub record Follows {F : Type 0} (after : F → Here → F) (g : Setting) (reset : machine.State) (limit : ℕ) (told told' : Told) (first last : F) (f : ProgramEnd)
+pub record FollowsRun {F : Type 0} (after : F → Here → F) (g : Setting) (reset : machine.MachineState) (limit : ℕ) (told told' : Told) (first last : F)
+    (f : ProgramEnd)
     : Type 0 where
   pub ran : RanSo g reset limit told told' f
   pub follower : last ≡ followed after first (heres_of g reset limit told told' f ran)
@@ -53,4 +54,4 @@ pub record Follows {F : Type 0} (after : F → Here → F) (g : Setting) (reset 
 pub record FollowsWith {F : Type 0} (after : F → Here → F) (s : Settings) (l : Parts) (told told' : Told) (first last : F) (f : ProgramEnd) : Type 0 where
   pub config : Config
   pub has : HasSettings s config
-  pub follows : Follows after (linked_setting l.classes s.stack config.memory) (linked_reset s.stack l.laid.words config) s.cycles told told' first last f
+  pub follows : FollowsRun after (linked_setting l.classes s.stack config.memory) (linked_reset s.stack l.laid.words config) s.cycles told told' first last f

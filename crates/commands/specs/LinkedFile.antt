@@ -19,7 +19,7 @@ use Rattle.commands.specs.declared.outcome.Refusal.TheVariants.{BadImage, Differ
 use Rattle.commands.specs.declared.outcome.Ending.{Ending}
 use Rattle.commands.specs.declared.outcome.Ending.TheVariants.{Ended, Uncaught, Refused, TooLong, NotLinked, Spent, InputFault, WriteFault, NoMemory}
 use Rattle.commands.specs.declared.show.Show.{Show}
-use Rattle.commands.specs.Linking.{Refuses, HasName}
+use Rattle.commands.specs.Linking.{RefusesFiles, HasName}
 use Rattle.run_devices.specs.Lent.{Lent}
 use Rattle.commands.specs.Run.{ended, failed, fault_ending}
 use Rattle.commands.specs.LinkedSettings.{RanLinkedWith, ImageIsTooLarge, IsTooLong}
@@ -30,7 +30,7 @@ use Rattle.commands.specs.LinkedSettings.{RanLinkedWith, ImageIsTooLarge, IsTooL
 abbrev pub BytesFault : (bytes : List ℕ) → Ending → Type 0
 BytesFault bytes (Refused BadImage) = (image : LinkedContent) → ¬ file.IsLinkedFile bytes image
 BytesFault bytes (Refused (Differs word kept linked)) = (image : LinkedContent) × file.IsLinkedFile bytes image × DiffersFirst image word kept linked
-BytesFault bytes (NotLinked refusal name) = (image : LinkedContent) × file.IsLinkedFile bytes image × Refuses image.files image.main refusal
+BytesFault bytes (NotLinked refusal name) = (image : LinkedContent) × file.IsLinkedFile bytes image × RefusesFiles image.files image.main refusal
     × HasName image.files refusal name.items
 BytesFault bytes NoMemory = Unit {0}
 BytesFault bytes ending = ⊥

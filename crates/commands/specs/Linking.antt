@@ -64,13 +64,13 @@ HasName files (links.Resolving refusal) name = IsNamedByRefusal files refusal na
 HasName files refusal name = Unit {0}
 
 -- this refuses the files first
-abbrev pub Refuses : (files : List (List ℕ)) → (main : List ℕ) → LinkRefusal → Type 0
-Refuses files main links.NoMemory = ⊥
-Refuses files main refusal = IsLinkRefusal files main refusal
+abbrev pub RefusesFiles : (files : List (List ℕ)) → (main : List ℕ) → LinkRefusal → Type 0
+RefusesFiles files main links.NoMemory = ⊥
+RefusesFiles files main refusal = IsLinkRefusal files main refusal
 
 -- why the files have no image
 abbrev pub LinkFault : (files : List (List ℕ)) → (main : List ℕ) → Ending → Type 0
-LinkFault files main (NotLinked refusal name) = Refuses files main refusal × HasName files refusal name.items
+LinkFault files main (NotLinked refusal name) = RefusesFiles files main refusal × HasName files refusal name.items
 LinkFault files main NoMemory = Unit {0}
 LinkFault files main ending = ⊥
 

@@ -2,7 +2,7 @@
 use Rattle.std.specs.Prelude.{◌≡◌, ℕ, ◌<◌, Bool, List, nat_eq, codes}
 use Rattle.std.specs.List.{starts_with}
 use Rattle.std.specs.declared.option.Option.{Option}
-use Rattle.outside.specs.Outside.{Rose, HasLength}
+use Rattle.outside.specs.Outside.{Rose, HasFileLength}
 use Rattle.commands.specs.declared.outcome.Refusal.TheVariants.{TooBig}
 use Rattle.commands.specs.declared.outcome.Ending.{Ending}
 use Rattle.commands.specs.declared.outcome.Ending.TheVariants.{Refused, ReadFault, NoMemory}
@@ -11,7 +11,7 @@ use Rattle.command_line.specs.declared.command.Settings.{Settings}
 
 -- why the file of a word wasn't read, what is told of it, and its counts of faults
 abbrev pub LoadFault : ℕ → Option (List ℕ) → ℕ → ℕ → Ending → Type 0
-LoadFault word told before now (Refused (TooBig operand sum)) = (operand ≡ word) × (16777216 < sum) × HasLength told sum
+LoadFault word told before now (Refused (TooBig operand sum)) = (operand ≡ word) × (16777216 < sum) × HasFileLength told sum
 LoadFault word told before now ReadFault = Rose before now
 LoadFault word told before now NoMemory = Unit {0}
 LoadFault word told before now ending = ⊥

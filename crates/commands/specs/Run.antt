@@ -27,7 +27,7 @@ use Rattle.commands.specs.declared.outcome.Ending.TheVariants.{InputFault, Write
 -- ---- where it begins
 
 -- a run that begins at this state of the machine
-pub record Started (g : Setting) (reset : machine.State) (r : Session) : Type 0 where
+pub record Started (g : Setting) (reset : machine.MachineState) (r : Session) : Type 0 where
   pub is_setting : IsSetting g
   pub methods : AreMethods g.program g.places r.methods
   pub machine_is : r.machine ≡ reset
@@ -41,7 +41,7 @@ HasStarted r = (g : Setting) × Started g r.machine r
 -- ---- what it shows
 
 -- The traced run. Its devices are the input, and the output, which is given the lines and has failed at least as often as they; the watch is as it was.
-pub record Traced (cycles : Bool) (names : List (List ℕ)) (g : Setting) (limit : ℕ) (a : Stage) (now : machine.State) (old new : Lent)
+pub record Traced (cycles : Bool) (names : List (List ℕ)) (g : Setting) (limit : ℕ) (a : Stage) (now : machine.MachineState) (old new : Lent)
     (end : Result RunEnd DeviceFault) : Type 0 where
   pub after : Told
   pub traces : TracesTo cycles names g limit a now (traced cycles old.left old.read_faults old.held old.write_faults old.write_faults) after end
@@ -53,19 +53,19 @@ pub record Traced (cycles : Bool) (names : List (List ℕ)) (g : Setting) (limit
   pub watch : new.handed ≡ old.handed
 
 -- from a, the machine and the program ran to this end
-abbrev pub RunsAs : Shown → (g : Setting) → (limit : ℕ) → (a : Stage) → (now : machine.State) → (old new : Lent) → Result RunEnd DeviceFault → Type 0
+abbrev pub RunsAs : Shown → (g : Setting) → (limit : ℕ) → (a : Stage) → (now : machine.MachineState) → (old new : Lent) → Result RunEnd DeviceFault → Type 0
 RunsAs Output g limit a now old new end = whole.RunsTo g limit a now (wired old) (wired new) end
 RunsAs (Trace cycles names) g limit a now old new end = Traced cycles names g limit a now old new end
 
 -- so it is from each state for which the machine stood, of a program with these methods
-abbrev pub RunsAsAll : Shown → (limit : ℕ) → (r : Session) → (now : machine.State) → (old new : Lent) → Result RunEnd DeviceFault → Type 0
+abbrev pub RunsAsAll : Shown → (limit : ℕ) → (r : Session) → (now : machine.MachineState) → (old new : Lent) → Result RunEnd DeviceFault → Type 0
 RunsAsAll shown limit r now old new end = (g : Setting) (s : State) → IsStateOf g r.methods r.machine s
     → RunsAs shown g limit (record { machine = r.machine; state = s }) now old new end
 
 -- ---- how it ends
 
 -- the counts of a state
-pub record AreCounts (counts : Counts) (s : machine.State) : Type 0 where
+pub record AreCounts (counts : Counts) (s : machine.MachineState) : Type 0 where
   pub clock : counts.clock ≡ s.clock
   pub hits : counts.hits ≡ s.hits
   pub misses : counts.misses ≡ s.misses
@@ -86,16 +86,16 @@ HasRisen (Err faults.Output) old new = Rose old.write_faults new.write_faults
 HasRisen (Err faults.Seen) old new = Rose old.write_faults new.write_faults
 
 -- From reset, and from the boot state, the machine and the program ran to this end, and the machine is at `now`.
-pub record RunsFromReset (shown : Shown) (g : Setting) (reset : machine.State) (limit : ℕ) (end : Result RunEnd DeviceFault)
+pub record RunsFromReset (shown : Shown) (g : Setting) (reset : machine.MachineState) (limit : ℕ) (end : Result RunEnd DeviceFault)
     (old new : Lent) : Type 0 where
   pub is_setting : IsSetting g
   pub boot : State
   pub is_boot : boot_state g.program ≡ Some boot
-  pub now : machine.State
+  pub now : machine.MachineState
   pub runs : RunsAs shown g limit (record { machine = reset; state = boot }) now old new end
 
 -- and these are its counts there
-pub record Ran (shown : Shown) (g : Setting) (reset : machine.State) (limit : ℕ) (old new : Lent) (p : ProgramEnd) : Type 0 where
+pub record Ran (shown : Shown) (g : Setting) (reset : machine.MachineState) (limit : ℕ) (old new : Lent) (p : ProgramEnd) : Type 0 where
   pub run : RunsFromReset shown g reset limit p.end old new
   pub counts : AreCounts p.counts run.now
   pub rose : HasRisen p.end old new
@@ -109,7 +109,7 @@ fault_ending faults.Output = WriteFault
 fault_ending faults.Seen = WriteFault
 
 -- a call failed on the run, and it ends so
-pub record RanToFault (shown : Shown) (g : Setting) (reset : machine.State) (limit : ℕ) (old new : Lent) (ending : Ending) : Type 0 where
+pub record RanToFault (shown : Shown) (g : Setting) (reset : machine.MachineState) (limit : ℕ) (old new : Lent) (ending : Ending) : Type 0 where
   pub fault : DeviceFault
   pub says : ending ≡ fault_ending fault
   pub counts : Counts

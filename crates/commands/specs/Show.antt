@@ -23,19 +23,19 @@ abbrev pub IsTrace : Show → Type 0
 IsTrace shows.Output = ⊥
 IsTrace (shows.Trace cycles) = Unit {0}
 
-abbrev pub IsTraced : Shown → Type 0
-IsTraced Output = ⊥
-IsTraced (Trace cycles names) = Unit {0}
+abbrev pub ShowsTrace : Shown → Type 0
+ShowsTrace Output = ⊥
+ShowsTrace (Trace cycles names) = Unit {0}
 
 -- each method has a name, where they are shown
-abbrev pub AreNamed : Shown → List CodedMethod → Type 0
-AreNamed Output methods = Unit {0}
-AreNamed (Trace cycles names) methods = length methods ≤ length names
+abbrev pub HaveNamesToShow : Shown → List CodedMethod → Type 0
+HaveNamesToShow Output methods = Unit {0}
+HaveNamesToShow (Trace cycles names) methods = length methods ≤ length names
 
 -- one method has a name
-abbrev pub IsNamed : Shown → Type 0
-IsNamed Output = Unit {0}
-IsNamed (Trace cycles names) = 1 ≤ length names
+abbrev pub HasNameToShow : Shown → Type 0
+HasNameToShow Output = Unit {0}
+HasNameToShow (Trace cycles names) = 1 ≤ length names
 
 -- ---- the names
 

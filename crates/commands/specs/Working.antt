@@ -110,7 +110,7 @@ pub record IsWorkLine (n : ℕ) (line : List ℕ) : Type 0 where
   pub line_is : line ≡ work_line n output counts bound
 
 -- all of it was put
-pub record PutsLine (n : ℕ) (old new : Option (List ℕ)) (before now : ℕ) : Type 0 where
+pub record PutsWholeLine (n : ℕ) (old new : Option (List ℕ)) (before now : ℕ) : Type 0 where
   pub line : List ℕ
   pub is : IsWorkLine n line
   pub put : Grew old new line
@@ -149,7 +149,7 @@ NotWorked n ending = LinkFault (work_files n) class_name ending ⊎ (Stops n end
 -- what out told before and then, and its counts of faults
 abbrev pub PutsWork : (n : ℕ) → (old new : Option (List ℕ)) → (before now : ℕ) → Ending → Type 0
 PutsWork n old new before now ending =
-    ((ending ≡ Written) × PutsLine n old new before now)
+    ((ending ≡ Written) × PutsWholeLine n old new before now)
     ⊎ (((ending ≡ WriteFault) × PutsLineFront n old new before now) ⊎ (NotWorked n ending × (new ≡ old) × (now ≡ before)))
 
 -- nothing but out changed

@@ -1,7 +1,7 @@
 -- What the outside tells before and after a command.
 use Rattle.std.specs.Prelude.{◌≡◌, ℕ, ◌<◌, ◌≤◌, List, length}
 use Rattle.std.specs.declared.option.Option.{Option}
-use Rattle.outside.specs.Outside.{OnlyWord, IsWhole, HasLength}
+use Rattle.outside.specs.Outside.{OnlyWord, IsWhole, HasFileLength}
 use Rattle.device_traits.specs.declared.seen.Seen.{Seen}
 
 -- what is told of files, the input, out and the watch, and the counts of faults of files, the input and out
@@ -66,4 +66,4 @@ pub record IsTooBig (word : ℕ) (old new : World) (operand sum : ℕ) : Type 0 
   pub files : FilesStayBut word old new
   pub operand_is : operand ≡ word
   pub long : 16777216 < sum
-  pub length_is : HasLength (old.files word) sum
+  pub length_is : HasFileLength (old.files word) sum

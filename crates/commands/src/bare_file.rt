@@ -7,7 +7,7 @@ ghost use Rattle.boundary.specs.Setting.{bare_setting};
 ghost use Rattle.run_devices.specs.Lent.{lent};
 ghost use Rattle.command_line.specs.Range.{AreSettings};
 ghost use Rattle.commands.specs.Leaving.{Leaves};
-ghost use Rattle.commands.specs.Show.{AreNamed, IsNamed, IsTrace, IsTraced, bare_shown, shown_by};
+ghost use Rattle.commands.specs.Show.{HaveNamesToShow, HasNameToShow, IsTrace, ShowsTrace, bare_shown, shown_by};
 ghost use Rattle.commands.specs.Run.{Started};
 ghost use Rattle.commands.specs.BareFile.{ImageFault, blocks_of_code, IsCodeTooLong, RanImage, RanImageWith};
 
@@ -64,13 +64,13 @@ fn run_started<const N: usize, O: Sink, V: Watch>(
 ) -> Ending
     requires started { Started (bare_setting bare.now N plan.config.memory) (bare_reset N bare.now plan.config) running.old }
     requires grammar { IsBareContent bare.now }
-    requires named { AreNamed (shown_by shown.now) running.old.methods }
+    requires named { HaveNamesToShow (shown_by shown.now) running.old.methods }
     requires few { plan.limit < 2 ^ 63 }
     ensures ran { RanImage (shown_by shown.now) (bare_setting bare.now N plan.config.memory) (bare_reset N bare.now plan.config) plan.limit
         (lent (Some []) 0 (O.held out.old) (O.faults out.old) (V.held watch.old))
         (lent (Some []) 0 (O.held out.new) (O.faults out.new) (V.held watch.new)) result }
     ensures done { Leaves result → ⊥ }
-    ensures watch { IsTraced (shown_by shown.now) → watch.new ≡ watch.old }
+    ensures watch { ShowsTrace (shown_by shown.now) → watch.new ≡ watch.old }
 {
     // The law is for the proof.
     bare_images_step();
@@ -95,13 +95,13 @@ fn run_image<const N: usize, O: Sink, V: Watch>(
     requires size { IsSize N }
     requires room { CanStartBare bare.now plan.config }
     requires grammar { IsBareContent bare.now }
-    requires named { IsNamed (shown_by shown.now) }
+    requires named { HasNameToShow (shown_by shown.now) }
     requires few { plan.limit < 2 ^ 63 }
     ensures ran { RanImage (shown_by shown.now) (bare_setting bare.now N plan.config.memory) (bare_reset N bare.now plan.config) plan.limit
         (lent (Some []) 0 (O.held out.old) (O.faults out.old) (V.held watch.old))
         (lent (Some []) 0 (O.held out.new) (O.faults out.new) (V.held watch.new)) result }
     ensures leaves { Leaves result → (out.new ≡ out.old) × (watch.new ≡ watch.old) }
-    ensures watch { IsTraced (shown_by shown.now) → watch.new ≡ watch.old }
+    ensures watch { ShowsTrace (shown_by shown.now) → watch.new ≡ watch.old }
 {
     match start::<N>(alloc, bare, plan.config) {
         Ok(running) => {

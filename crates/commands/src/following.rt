@@ -11,7 +11,7 @@ ghost use Rattle.run_devices.specs.Lent.{lent, wired};
 ghost use Rattle.boundary.specs.Setting.{Setting};
 ghost use Rattle.commands.specs.Run.{Started, HasStarted};
 ghost use Rattle.commands.specs.LinkedRun.{CanRun, linked_setting};
-ghost use Rattle.commands.specs.Following.{Follows, FollowsWith};
+ghost use Rattle.commands.specs.Following.{FollowsRun, FollowsWith};
 
 use crate::linked_machine::start_linked;
 use crate::program_end::{ProgramEnd, counts_of};
@@ -40,7 +40,7 @@ fn follow<const N: usize, D: Devices, F: Follower>(
     requires started { HasStarted running.old }
     requires few { limit < 2 ^ 63 }
     ensures follows { (g : Setting) → Started g running.old.machine running.old
-        → Follows F.after g running.old.machine limit (D.told device.old) (D.told device.new) follower.old follower.new result }
+        → FollowsRun F.after g running.old.machine limit (D.told device.old) (D.told device.new) follower.old follower.new result }
     ensures names { D.names device.new ≡ D.names device.old }
 {
     let end = run_followed(running, device, limit, follower);
@@ -64,7 +64,7 @@ fn follow_methods<const N: usize, D: Devices, F: Follower>(
     requires held { CanRun program.now layout.now plan.config }
     requires methods { AreMethods (resolved program.now) (places_of program.now) methods.now }
     requires few { plan.limit < 2 ^ 63 }
-    ensures follows { IfOk result (Follows F.after (linked_setting program.now N plan.config.memory)
+    ensures follows { IfOk result (FollowsRun F.after (linked_setting program.now N plan.config.memory)
         (linked_reset N layout.now.words plan.config) plan.limit (D.told device.old) (D.told device.new) follower.old follower.new) }
     ensures names { D.names device.new ≡ D.names device.old }
     ensures leaves { IfErr result (λ _. device.new ≡ device.old) }
@@ -90,7 +90,7 @@ fn follow_linked<const N: usize, D: Devices, F: Follower>(
     requires size { IsSize N }
     requires held { CanRun program.now layout.now plan.config }
     requires few { plan.limit < 2 ^ 63 }
-    ensures follows { IfOk result (Follows F.after (linked_setting program.now N plan.config.memory)
+    ensures follows { IfOk result (FollowsRun F.after (linked_setting program.now N plan.config.memory)
         (linked_reset N layout.now.words plan.config) plan.limit (D.told device.old) (D.told device.new) follower.old follower.new) }
     ensures names { D.names device.new ≡ D.names device.old }
     ensures leaves { IfErr result (λ _. device.new ≡ device.old) }

@@ -5,7 +5,7 @@ ghost use Rattle.image_file.specs.Linked as file;
 ghost use Rattle.image_file.specs.Linked.{LinkedContent, contents};
 ghost use Rattle.jopizer.specs.Linked.{IsLinked, image_of};
 ghost use Rattle.jopizer.specs.declared.fault.ImageFault.TheVariants.{Link};
-ghost use Rattle.jopizer.specs.Images.{IsWrong};
+ghost use Rattle.jopizer.specs.Images.{IsWrongImage};
 ghost use Rattle.jopizer.specs.Refused.{IsLinkRefusal};
 ghost use Rattle.refusal_lines.specs.Room.{HasRoom};
 ghost use Rattle.command_line.specs.Range.{AreSettings};
@@ -36,7 +36,7 @@ use std::alloc::Global;
 
 /// The ending where this refuses the class files in the bytes of an image.
 fn unlinked(alloc: Global, bytes: &[u8], refusal: LinkRefusal) -> Ending
-    requires { IsWrong bytes.now (Link refusal) }
+    requires { IsWrongImage bytes.now (Link refusal) }
     ensures { BytesFault bytes.now result }
 {
     // The law is for the proof.
@@ -50,7 +50,7 @@ fn unlinked(alloc: Global, bytes: &[u8], refusal: LinkRefusal) -> Ending
 
 /// The ending where this is wrong with the bytes.
 fn not_read(alloc: Global, bytes: &[u8], fault: ImageFault) -> Ending
-    requires { IsWrong bytes.now fault }
+    requires { IsWrongImage bytes.now fault }
     ensures { BytesFault bytes.now result }
 {
     match fault {

@@ -6,7 +6,7 @@ ghost use Rattle.image_facts.specs.Methods.{AreMethods};
 ghost use Rattle.program_tables.specs.Resolved.{resolved};
 ghost use Rattle.image_words.specs.Regions.{places_of};
 ghost use Rattle.jop_core.specs.Reset.{linked_reset};
-ghost use Rattle.commands.specs.Show.{AreNamed, IsTrace, IsTraced, linked_shown, shown_by};
+ghost use Rattle.commands.specs.Show.{HaveNamesToShow, IsTrace, ShowsTrace, linked_shown, shown_by};
 ghost use Rattle.commands.specs.Run.{Started, Ran};
 ghost use Rattle.commands.specs.LinkedRun.{CanRun, HasClass, linked_setting};
 
@@ -64,7 +64,7 @@ fn run_methods<const N: usize, S: Source, O: Sink, V: Watch>(
     requires size { IsSize N }
     requires held { CanRun program.now layout.now plan.config }
     requires methods { AreMethods (resolved program.now) (places_of program.now) methods.now }
-    requires named { AreNamed (shown_by shown.now) methods.now }
+    requires named { HaveNamesToShow (shown_by shown.now) methods.now }
     requires few { plan.limit < 2 ^ 63 }
     ensures ran { IfOk result (Ran (shown_by shown.now) (linked_setting program.now N plan.config.memory)
         (linked_reset N layout.now.words plan.config) plan.limit
@@ -72,7 +72,7 @@ fn run_methods<const N: usize, S: Source, O: Sink, V: Watch>(
         (lent (S.left input.new) (S.faults input.new) (O.held out.new) (O.faults out.new) (V.held watch.new))) }
     ensures class { IfOk result (λ ran. HasClass program.now ran.end) }
     ensures leaves { IfErr result (λ _. (input.new ≡ input.old) × (out.new ≡ out.old) × (watch.new ≡ watch.old)) }
-    ensures watch { IsTraced (shown_by shown.now) → watch.new ≡ watch.old }
+    ensures watch { ShowsTrace (shown_by shown.now) → watch.new ≡ watch.old }
 {
     // The law is for the proof.
     uncaught_classes_are_there();

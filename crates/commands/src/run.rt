@@ -5,7 +5,7 @@ ghost use Rattle.run_devices.specs.Lent.{lent, wired};
 ghost use Rattle.boundary.specs.Setting.{Setting};
 ghost use Rattle.boundary.specs.Runs.{RunsAll};
 ghost use Rattle.boundary.specs.Traces.{texts};
-ghost use Rattle.commands.specs.Show.{Trace, shown_by, AreNamed, IsTraced};
+ghost use Rattle.commands.specs.Show.{Trace, shown_by, HaveNamesToShow, ShowsTrace};
 ghost use Rattle.commands.specs.Run.{Started, HasStarted, RunsAsAll, Ran};
 
 use crate::program_end::{ProgramEnd, counts_of};
@@ -65,11 +65,11 @@ fn run_shown<const N: usize, S: Source, O: Sink, V: Watch>(
 ) -> Result<RunEnd, DeviceFault>
     requires unbroken { IsOk running.old.mode }
     requires few { limit < 2 ^ 63 }
-    requires named { AreNamed (shown_by shown.now) running.old.methods }
+    requires named { HaveNamesToShow (shown_by shown.now) running.old.methods }
     ensures runs { RunsAsAll (shown_by shown.now) limit running.old running.new.machine
         (lent (S.left input.old) (S.faults input.old) (O.held out.old) (O.faults out.old) (V.held watch.old))
         (lent (S.left input.new) (S.faults input.new) (O.held out.new) (O.faults out.new) (V.held watch.new)) result }
-    ensures watch { IsTraced (shown_by shown.now) → watch.new ≡ watch.old }
+    ensures watch { ShowsTrace (shown_by shown.now) → watch.new ≡ watch.old }
 {
     match shown {
         NamedShow::Output => run(running, input, out, watch, limit),
@@ -90,11 +90,11 @@ pub fn run_to_end<const N: usize, S: Source, O: Sink, V: Watch>(
 ) -> ProgramEnd
     requires started { HasStarted running.old }
     requires few { limit < 2 ^ 63 }
-    requires named { AreNamed (shown_by shown.now) running.old.methods }
+    requires named { HaveNamesToShow (shown_by shown.now) running.old.methods }
     ensures ran { (g : Setting) → Started g running.old.machine running.old → Ran (shown_by shown.now) g running.old.machine limit
         (lent (S.left input.old) (S.faults input.old) (O.held out.old) (O.faults out.old) (V.held watch.old))
         (lent (S.left input.new) (S.faults input.new) (O.held out.new) (O.faults out.new) (V.held watch.new)) result }
-    ensures watch { IsTraced (shown_by shown.now) → watch.new ≡ watch.old }
+    ensures watch { ShowsTrace (shown_by shown.now) → watch.new ≡ watch.old }
 {
     let end = run_shown(running, shown, input, out, watch, limit);
     ProgramEnd {

@@ -6,7 +6,7 @@ use Rattle.std.proofs.lemmas.List.{get_or_default, length-map}
 use Rattle.std.proofs.lemmas.List.FromFn.{length-range_with_len}
 use Rattle.loop_nest.specs.Digraph.{Digraph, IsDigraph}
 use Rattle.loop_nest.specs.Walks.{IsMember}
-use Rattle.loop_nest.specs.Entered.{AreReached}
+use Rattle.loop_nest.specs.Entered.{AreAllReached}
 use Rattle.loop_nest.specs.Nest.{NaturalLoop, headers_of, header_at, members_at, IsLoopOf, IsAround, IsNest}
 use Rattle.loop_nest.specs.Laws.{HeaderDominatesMembers, LoopsAreNested, DominanceIsAntisymmetric}
 use Rattle.loop_nest.proofs.Elements.{filter_at_most, fewer_kept, range_contains}
@@ -54,7 +54,7 @@ outermost_are_apart g ls nest candidates flags out i k l m at_i at_k other flagg
     let outer : Contains (members_at ls k) (header_at ls i) = subst (λ (us : List ℕ). Contains us (header_at ls i)) (sym (members_of ls k no_loop lt_k ∙ ap (λ (x : NaturalLoop). x.members) m_is)) (within (header_at ls i) inner) in
     is_i.outermost k (record { below = lt_k; other = other; member = outer }) is_k.candidate
 
-module _ (dominates : HeaderDominatesMembers) (nested : LoopsAreNested) (antisymmetric : DominanceIsAntisymmetric) (g : Digraph) (ls : List NaturalLoop) (wf : IsDigraph g) (reached : AreReached g) (nest : IsNest g ls) where
+module _ (dominates : HeaderDominatesMembers) (nested : LoopsAreNested) (antisymmetric : DominanceIsAntisymmetric) (g : Digraph) (ls : List NaturalLoop) (wf : IsDigraph g) (reached : AreAllReached g) (nest : IsNest g ls) where
   header_below : (i : ℕ) → i < length ls → header_at ls i < g.nodes
   header_below i lt = let m = header_member g ls nest i lt in (ends_within wf m.0.0 (header_at ls i) m.0.1.edge).1
 

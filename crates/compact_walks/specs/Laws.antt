@@ -3,7 +3,7 @@ use Rattle.std.specs.Prelude.{◌≡◌, ◌↔◌, ◌⊎◌, ℕ, ◌<◌, Lis
 use Rattle.loop_nest.specs.Digraph.{Digraph, IsDigraph, Edge}
 use Rattle.loop_nest.specs.Walks.{IsHeader}
 use Rattle.loop_nest.specs.Reduction.{IsReducible, Leaves}
-use Rattle.loop_nest.specs.Entered.{AreReached}
+use Rattle.loop_nest.specs.Entered.{AreAllReached}
 use Rattle.loop_nest.specs.Nest.{NaturalLoop, IsNest, IsAround}
 use Rattle.section_check.specs.Bounded.{IsGreatest}
 use Rattle.section_check.specs.Renumbering.{IsRenumbered, AreMovedCosts}
@@ -90,5 +90,6 @@ pub record HasFlaggedAround (nest : List NaturalLoop) (flags : List Bool) (i : �
 
 abbrev pub OthersHaveOneAround : Type 0
 OthersHaveOneAround =
-    (g : Digraph) (nest : List NaturalLoop) → IsDigraph g → AreReached g → IsNest g nest → (candidates flags : List Bool) → AreOutermost nest candidates flags
+    (g : Digraph) (nest : List NaturalLoop) → IsDigraph g → AreAllReached g → IsNest g nest → (candidates flags : List Bool)
+    → AreOutermost nest candidates flags
     → (i : ℕ) → i < length nest → IsFlagged candidates i → (¬ IsFlagged flags i) → ¬ ¬ HasFlaggedAround nest flags i

@@ -4,7 +4,7 @@ use Rattle.loop_nest.specs.Digraph.{Digraph}
 use Rattle.loop_nest.specs.Nest.{NaturalLoop}
 use Rattle.section_check.specs.Bounded.{BoundedLoop, IsGreatest}
 use Rattle.section_check.specs.Section.{IsInForm}
-use Rattle.section_check.specs.Conditions.{Answers}
+use Rattle.section_check.specs.Conditions.{IsSectionAnswer}
 use Rattle.path_solver.specs.Reaching.{ReachesExit}
 use Rattle.path_solver.specs.Longest.{bounded_loops, WalkExceeds, IterationsExceed, WalksAreTooLarge}
 use Rattle.path_solver.specs.Regions.{charged, AreRegionsApart, AreMarkedLoopsOf}
@@ -29,13 +29,13 @@ abbrev pub loops_of : Problem → List BoundedLoop
 loops_of p = bounded_loops p.nest p.bounds (fees_of p)
 
 -- the greatest walk with a section that shows it, where neither a walk nor iterations exceed 64 bits
-pub record IsShown (p : Problem) (s : Solution) : Type 0 where
+pub record IsShownWalk (p : Problem) (s : Solution) : Type 0 where
   pub reached : ReachesExit p.graph 0
   pub small : ¬ WalksAreTooLarge p.graph p.costs (loops_of p)
   pub greatest : IsGreatest p.graph p.costs (loops_of p) s.value
   pub loops : AreMarkedLoopsOf p.nest p.regions s.section.loops
   pub form : IsInForm s.section p.bounds (map Some (fees_of p))
-  pub accepted : AreRegionsApart p.nest p.regions → Answers p.graph p.costs s.section p.bounds (map Some (fees_of p)) (Ok (Some s.value))
+  pub accepted : AreRegionsApart p.nest p.regions → IsSectionAnswer p.graph p.costs s.section p.bounds (map Some (fees_of p)) (Ok (Some s.value))
 
 -- a walk exceeds 64 bits; or the greatest walk doesn't, and iterations do
 abbrev pub IsExceeding : Digraph → List ℕ → List BoundedLoop → Option ℕ → Type 0
@@ -52,7 +52,7 @@ abbrev pub answer_of : Option Solution → Answer
 answer_of None = Never
 answer_of (Some s) = Shown s
 
-abbrev pub IsAnswer : Problem → Answer → Type 0
-IsAnswer p Never = ¬ ReachesExit p.graph 0
-IsAnswer p (Shown s) = IsShown p s
-IsAnswer p (Exceeds value) = ReachesExit p.graph 0 × IsExceeding p.graph p.costs (loops_of p) value
+abbrev pub IsWalkAnswer : Problem → Answer → Type 0
+IsWalkAnswer p Never = ¬ ReachesExit p.graph 0
+IsWalkAnswer p (Shown s) = IsShownWalk p s
+IsWalkAnswer p (Exceeds value) = ReachesExit p.graph 0 × IsExceeding p.graph p.costs (loops_of p) value

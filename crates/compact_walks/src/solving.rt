@@ -4,7 +4,7 @@ ghost use Rattle.loop_nest.specs.Reduction.{IsReducible};
 ghost use Rattle.loop_nest.specs.Nest.{IsNest};
 ghost use Rattle.path_solver.specs.Longest.{WalksAreTooLarge, bounded_loops};
 ghost use Rattle.path_solver.specs.Regions.{charged};
-ghost use Rattle.compact_walks.specs.Solving.{IsAnswer, IsLargeAnswer, answer_of};
+ghost use Rattle.compact_walks.specs.Solving.{IsWalkAnswer, IsLargeAnswer, answer_of};
 
 use base::NoMemory;
 use loop_nest::Graph;
@@ -94,7 +94,7 @@ pub fn solve(
     requires bounds { length bounds.now ≡ length nest.now }
     requires loads { length loads.now ≡ length nest.now }
     requires regions { length regions.now ≡ length nest.now }
-    ensures { IfOk result (IsAnswer (record {
+    ensures { IfOk result (IsWalkAnswer (record {
       graph = g.now;
       nest = nest.now;
       costs = costs.now;

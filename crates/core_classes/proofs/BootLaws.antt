@@ -5,7 +5,7 @@ use Rattle.std.specs.List.{flat_map, AllByRecursion}
 use Rattle.std.proofs.lemmas.List.{length-append}
 use Rattle.class_making.specs.declared.plan.Piece.{Piece}
 use Rattle.class_making.specs.Plans.{piece_mentions, plan_mentions, items_of}
-use Rattle.class_making.specs.Right.{IsRightMention, code_length, IsRightPiece, IsRightCode, IsRightMethod, IsRightPlan}
+use Rattle.class_making.specs.Right.{IsRightMention, code_length, IsRightPiece, IsRightCodePlan, IsRightMethodPlan, IsRightPlan}
 use Rattle.class_making.specs.Laws.{PlansAreClasses, PlansHaveBytes, ItemsAreFew}
 use Rattle.core_classes.specs.Core.{object_name, string_name, call_pieces, main_pieces, boot_pieces, boot_method, boot_plan, boot}
 use Rattle.core_classes.specs.Laws.{IsCalled, BootIsAClass}
@@ -44,7 +44,7 @@ main_mentions main h = (
   (method_right main (codes "main") (codes "([Ljava/lang/String;)V") h.0 h.1 refl (pool_text (codes "main") refl) (is_method (codes "([Ljava/lang/String;)V") main_types) (pool_text (codes "([Ljava/lang/String;)V") refl), tt),
 )
 
-boot_code : (calls : List (List ℕ)) (main : List ℕ) → length calls ≤ 10000 → IsRightCode (record { max_stack = 1; max_locals = 0; pieces = boot_pieces calls main; stack_map = None })
+boot_code : (calls : List (List ℕ)) (main : List ℕ) → length calls ≤ 10000 → IsRightCodePlan (record { max_stack = 1; max_locals = 0; pieces = boot_pieces calls main; stack_map = None })
 unfolding boot_pieces main_pieces
 boot_code calls main few = record {
   max_stack = lit< tt;
@@ -55,7 +55,7 @@ boot_code calls main few = record {
   stack_map = tt;
 }
 
-boot_right_method : (calls : List (List ℕ)) (main : List ℕ) → length calls ≤ 10000 → IsRightMethod 0x0030 (boot_method calls main)
+boot_right_method : (calls : List (List ℕ)) (main : List ℕ) → length calls ≤ 10000 → IsRightMethodPlan 0x0030 (boot_method calls main)
 unfolding boot_method
 boot_right_method calls main few =
     plain_method 0x0030 0x000A (codes "boot") (codes "()V") 1 0 (boot_pieces calls main) (lit< tt) (refl, refl) refl nothing_types (private_access 0x000A refl refl) refl refl (boot_code calls main few)

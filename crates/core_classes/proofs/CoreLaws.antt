@@ -14,7 +14,7 @@ use Rattle.class_making.specs.declared.plan.ClassPlan.{ClassPlan}
 use Rattle.class_making.specs.declared.plan.FieldPlan.{FieldPlan}
 use Rattle.class_making.specs.declared.plan.MethodPlan.{MethodPlan}
 use Rattle.class_making.specs.Plans.{plan_mentions, field_mentions, method_mentions, bare_class, items_of, class_of}
-use Rattle.class_making.specs.Right.{IsPoolText, IsRightMention, IsRightField, IsRightMethod, Signature, method_signature, AreDistinct, IsRightPlan}
+use Rattle.class_making.specs.Right.{IsPoolText, IsRightMention, IsRightFieldPlan, IsRightMethodPlan, PlanSignature, method_signature, HaveOwnSignatures, IsRightPlan}
 use Rattle.class_making.specs.Laws.{PlansAreClasses, HasBytes, PlansHaveBytes, ItemsAreFew}
 use Rattle.core_classes.specs.Laws.{CoreClassesAreClasses, CoreHasBytes}
 use Rattle.core_classes.specs.Core.{object_name, string_name, throwable_name, open_class, abstract_class, final_class, serializable_class, empty_init, object_plan, interface_plan, chars_field as chars_plan, length_method, char_at_method, string_plan, plain_init, message_field, keeping_init, get_message_method, throwable_plan, handing_init, error_plan, error_plans, read_method, write_method, io_plan, first_plans, core_plans, core}
@@ -74,7 +74,7 @@ empty_mentions : Mentions empty_init
 unfolding empty_init
 empty_mentions = (text_right (codes "<init>") init_text, (text_right (codes "()V") nothing_text, (code_right, tt)))
 
-empty_right : (class_flags : ℕ) → bit_and class_flags acc_interface ≡ 0 → IsRightMethod class_flags empty_init
+empty_right : (class_flags : ℕ) → bit_and class_flags acc_interface ≡ 0 → IsRightMethodPlan class_flags empty_init
 unfolding empty_init
 empty_right class_flags of_class =
     init_method class_flags (codes "()V") 0 1 _ of_class nothing_types refl (record { max_stack = lit< tt; max_locals = lit< tt; not_empty = lit≤ tt; not_long = lit≤ tt; pieces = (lit< tt, tt); stack_map = tt })
@@ -83,7 +83,7 @@ plain_mentions : (superclass : List ℕ) → Named superclass → Mentions (plai
 unfolding plain_init
 plain_mentions superclass n = (text_right (codes "<init>") init_text, (text_right (codes "()V") nothing_text, (code_right, (init_right superclass n, tt))))
 
-plain_right : (class_flags : ℕ) (superclass : List ℕ) → bit_and class_flags acc_interface ≡ 0 → IsRightMethod class_flags (plain_init superclass)
+plain_right : (class_flags : ℕ) (superclass : List ℕ) → bit_and class_flags acc_interface ≡ 0 → IsRightMethodPlan class_flags (plain_init superclass)
 unfolding plain_init
 plain_right class_flags superclass of_class =
     init_method class_flags (codes "()V") 1 1 _ of_class nothing_types refl (record { max_stack = lit< tt; max_locals = lit< tt; not_empty = lit≤ tt; not_long = lit≤ tt; pieces = (lit< tt, (lit< tt, (tt, (lit< tt, tt)))); stack_map = tt })
@@ -92,7 +92,7 @@ handing_mentions : (superclass : List ℕ) → Named superclass → Mentions (ha
 unfolding handing_init
 handing_mentions superclass n = (text_right (codes "<init>") init_text, (text_right (codes "(Ljava/lang/String;)V") string_text, (code_right, (string_init_right superclass n, tt))))
 
-handing_right : (class_flags : ℕ) (superclass : List ℕ) → bit_and class_flags acc_interface ≡ 0 → IsRightMethod class_flags (handing_init superclass)
+handing_right : (class_flags : ℕ) (superclass : List ℕ) → bit_and class_flags acc_interface ≡ 0 → IsRightMethodPlan class_flags (handing_init superclass)
 unfolding handing_init
 handing_right class_flags superclass of_class =
     init_method class_flags (codes "(Ljava/lang/String;)V") 2 2 _ of_class takes_string_types refl (record { max_stack = lit< tt; max_locals = lit< tt; not_empty = lit≤ tt; not_long = lit≤ tt; pieces = (lit< tt, (lit< tt, (lit< tt, (tt, (lit< tt, tt))))); stack_map = tt })
@@ -101,7 +101,7 @@ keeping_mentions : Mentions keeping_init
 unfolding keeping_init
 keeping_mentions = (text_right (codes "<init>") init_text, (text_right (codes "(Ljava/lang/String;)V") string_text, (code_right, (init_right object_name object_named, (message_right, tt)))))
 
-keeping_right : IsRightMethod open_class keeping_init
+keeping_right : IsRightMethodPlan open_class keeping_init
 unfolding keeping_init
 keeping_right =
     init_method open_class (codes "(Ljava/lang/String;)V") 2 2 _ refl takes_string_types refl (record { max_stack = lit< tt; max_locals = lit< tt; not_empty = lit≤ tt; not_long = lit≤ tt; pieces = (lit< tt, (lit< tt, (tt, (lit< tt, (lit< tt, (lit< tt, (tt, (lit< tt, tt)))))))); stack_map = tt })
@@ -111,7 +111,7 @@ unfolding get_message_method
 get_message_mentions =
     (text_right (codes "getMessage") (pool_text (codes "getMessage") refl), (text_right (codes "()Ljava/lang/String;") (pool_text (codes "()Ljava/lang/String;") refl), (code_right, (message_right, tt))))
 
-get_message_right : IsRightMethod open_class get_message_method
+get_message_right : IsRightMethodPlan open_class get_message_method
 unfolding get_message_method
 get_message_right =
     plain_method open_class 0x0001 (codes "getMessage") (codes "()Ljava/lang/String;") 1 1 _ (lit< tt) (refl, refl) refl gives_string_types (public_access 0x0001 refl refl) refl refl
@@ -121,7 +121,7 @@ length_mentions : Mentions length_method
 unfolding length_method
 length_mentions = (text_right (codes "length") (pool_text (codes "length") refl), (text_right (codes "()I") (pool_text (codes "()I") refl), (code_right, (chars_right, tt))))
 
-length_right : IsRightMethod final_class length_method
+length_right : IsRightMethodPlan final_class length_method
 unfolding length_method
 length_right =
     plain_method final_class 0x0001 (codes "length") (codes "()I") 1 1 _ (lit< tt) (refl, refl) refl gives_int_types (public_access 0x0001 refl refl) refl refl
@@ -131,7 +131,7 @@ char_at_mentions : Mentions char_at_method
 unfolding char_at_method
 char_at_mentions = (text_right (codes "charAt") (pool_text (codes "charAt") refl), (text_right (codes "(I)C") (pool_text (codes "(I)C") refl), (code_right, (chars_right, tt))))
 
-char_at_right : IsRightMethod final_class char_at_method
+char_at_right : IsRightMethodPlan final_class char_at_method
 unfolding char_at_method
 char_at_right =
     plain_method final_class 0x0001 (codes "charAt") (codes "(I)C") 2 2 _ (lit< tt) (refl, refl) refl char_at_types (public_access 0x0001 refl refl) refl refl
@@ -141,7 +141,7 @@ read_mentions : Mentions read_method
 unfolding read_method
 read_mentions = (text_right (codes "read") (pool_text (codes "read") refl), (text_right (codes "()I") (pool_text (codes "()I") refl), (code_right, tt)))
 
-read_right : IsRightMethod final_class read_method
+read_right : IsRightMethodPlan final_class read_method
 unfolding read_method
 read_right =
     plain_method final_class 0x0009 (codes "read") (codes "()I") 1 0 _ (lit< tt) (refl, refl) refl gives_int_types (public_access 0x0009 refl refl) refl refl
@@ -151,7 +151,7 @@ write_mentions : Mentions write_method
 unfolding write_method
 write_mentions = (text_right (codes "write") (pool_text (codes "write") refl), (text_right (codes "(I)V") (pool_text (codes "(I)V") refl), (code_right, tt)))
 
-write_right : IsRightMethod final_class write_method
+write_right : IsRightMethodPlan final_class write_method
 unfolding write_method
 write_right =
     plain_method final_class 0x0009 (codes "write") (codes "(I)V") 1 1 _ (lit< tt) (refl, refl) refl takes_int_types (public_access 0x0009 refl refl) refl refl
@@ -162,7 +162,7 @@ write_right =
 -- a class with neither superinterfaces nor fields, whose superclass is one that can be named
 pub bare_right : (few : ItemsAreFew) (flags : ℕ) (name superclass : List ℕ) (methods : List MethodPlan) → IsHalf flags → bit_and flags acc_interface ≡ 0 → Named name → Named superclass
     → 6 * length (plan_mentions (bare_class flags name (Some superclass) methods)) ≤ 65534 → length methods < 2 ^ 16
-    → AllByRecursion IsRightMention (flat_map method_mentions methods) → AllByRecursion (IsRightMethod flags) methods → AreDistinct method_signature methods
+    → AllByRecursion IsRightMention (flat_map method_mentions methods) → AllByRecursion (IsRightMethodPlan flags) methods → HaveOwnSignatures method_signature methods
     → IsRightPlan (bare_class flags name (Some superclass) methods)
 bare_right few flags name superclass methods half of_class named above room count mentions right distinct = record {
   mentions = (named_right name named, (named_right superclass above, mentions));
@@ -184,8 +184,8 @@ bare_right few flags name superclass methods half of_class named above room coun
 }
 
 -- members of different descriptors
-apart : (s t : Signature) → (length s.1 == length t.1) ≡ false → ¬ (s ≡ t)
-apart s t differ e = absurd (let f : false ≡ true = sym differ ∙ eq-eqb (length s.1) (length t.1) (ap (λ (u : Signature). length u.1) e) in cc)
+apart : (s t : PlanSignature) → (length s.1 == length t.1) ≡ false → ¬ (s ≡ t)
+apart s t differ e = absurd (let f : false ≡ true = sym differ ∙ eq-eqb (length s.1) (length t.1) (ap (λ (u : PlanSignature). length u.1) e) in cc)
 
 pub joined : (xs ys : List Item) → AllByRecursion IsRightMention xs → AllByRecursion IsRightMention ys → AllByRecursion IsRightMention (xs ++ ys)
 joined [] ys p q = q
@@ -235,9 +235,9 @@ interface_right few name named = record {
 
 -- a serializable class with a private field
 serializable_right : (few : ItemsAreFew) (flags : ℕ) (name : List ℕ) (field : FieldPlan) (methods : List MethodPlan) → IsHalf flags → bit_and flags acc_interface ≡ 0 → Named name
-    → AllByRecursion IsRightMention (field_mentions field) → IsRightField flags field
+    → AllByRecursion IsRightMention (field_mentions field) → IsRightFieldPlan flags field
     → 6 * length (plan_mentions (serializable_class flags name field methods)) ≤ 65534 → length methods < 2 ^ 16
-    → AllByRecursion IsRightMention (flat_map method_mentions methods) → AllByRecursion (IsRightMethod flags) methods → AreDistinct method_signature methods
+    → AllByRecursion IsRightMention (flat_map method_mentions methods) → AllByRecursion (IsRightMethodPlan flags) methods → HaveOwnSignatures method_signature methods
     → IsRightPlan (serializable_class flags name field methods)
 serializable_right few flags name field methods half of_class named field_right typed room count mentions right distinct = record {
   mentions = (named_right name named, (named_right object_name object_named, (named_right (codes "java/io/Serializable") serializable_named, (field_right.0, (field_right.1.0, mentions)))));

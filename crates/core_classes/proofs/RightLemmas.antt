@@ -16,7 +16,7 @@ use Rattle.class_rules.specs.Rules.{IsField, IsMethod, IsClassName, IsUnqualifie
 use Rattle.class_making.specs.declared.item.Item.TheVariants.{Text, Class, Field, Method}
 use Rattle.class_making.specs.declared.plan.Piece.{Piece}
 use Rattle.class_making.specs.Plans.{field_plan, method_plan}
-use Rattle.class_making.specs.Right.{IsPoolText, IsRightMention, IsRightCode, IsRightField, IsRightMethod}
+use Rattle.class_making.specs.Right.{IsPoolText, IsRightMention, IsRightCodePlan, IsRightFieldPlan, IsRightMethodPlan}
 
 -- ---- texts
 
@@ -117,8 +117,8 @@ private_access flags p q = record { public_private = λ h. h.0 p; public_protect
 
 -- a method that is no instance initializer
 pub plain_method : (class_flags flags : ℕ) (name descriptor : List ℕ) (max_stack max_locals : ℕ) (pieces : List Piece) → IsHalf flags → IsDeclaredName name → is_instance_initializer name ≡ false → Types descriptor → HasOneAccess flags
-    → bit_and flags acc_abstract ≡ 0 → bit_and flags acc_native ≡ 0 → IsRightCode (record { max_stack = max_stack; max_locals = max_locals; pieces = pieces; stack_map = None })
-    → IsRightMethod class_flags (method_plan flags name descriptor max_stack max_locals pieces)
+    → bit_and flags acc_abstract ≡ 0 → bit_and flags acc_native ≡ 0 → IsRightCodePlan (record { max_stack = max_stack; max_locals = max_locals; pieces = pieces; stack_map = None })
+    → IsRightMethodPlan class_flags (method_plan flags name descriptor max_stack max_locals pieces)
 plain_method class_flags flags name descriptor max_stack max_locals pieces half named other types access a n code = record {
   flags = half;
   name = named;
@@ -131,8 +131,8 @@ plain_method class_flags flags name descriptor max_stack max_locals pieces half 
 
 -- an instance initializer of a class
 pub init_method : (class_flags : ℕ) (descriptor : List ℕ) (max_stack max_locals : ℕ) (pieces : List Piece) → bit_and class_flags acc_interface ≡ 0 → (types : Types descriptor) → types.0.result ≡ None
-    → IsRightCode (record { max_stack = max_stack; max_locals = max_locals; pieces = pieces; stack_map = None })
-    → IsRightMethod class_flags (method_plan 0x0001 (codes "<init>") descriptor max_stack max_locals pieces)
+    → IsRightCodePlan (record { max_stack = max_stack; max_locals = max_locals; pieces = pieces; stack_map = None })
+    → IsRightMethodPlan class_flags (method_plan 0x0001 (codes "<init>") descriptor max_stack max_locals pieces)
 init_method class_flags descriptor max_stack max_locals pieces of_class types nothing code = record {
   flags = lit< tt;
   name = (refl, refl);
@@ -144,7 +144,7 @@ init_method class_flags descriptor max_stack max_locals pieces of_class types no
 }
 
 pub private_field : (class_flags flags : ℕ) (name descriptor : List ℕ) → bit_and class_flags acc_interface ≡ 0 → IsHalf flags → IsUnqualified name → IsField descriptor → HasOneAccess flags
-    → IsRightField class_flags (field_plan flags name descriptor)
+    → IsRightFieldPlan class_flags (field_plan flags name descriptor)
 private_field class_flags flags name descriptor of_class half named typed access = record {
   flags = half;
   name = named;

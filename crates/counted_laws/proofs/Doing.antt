@@ -22,7 +22,7 @@ use Rattle.bytecode_model.specs.WellFormed.{AreSpaced, is_call}
 use Rattle.method_flow.specs.Nodes.{At, RaiseAt, IsAtOffset}
 use Rattle.code_lines.specs.Lines.{written_by}
 use Rattle.further_rules.specs.Known.{Known}
-use Rattle.counted_laws.specs.Visits.{Visit, visit_of, lengths_of, HoldsValue, HoldsInt, IsArrayOf, Pushed, HasArray, Branched, Does}
+use Rattle.counted_laws.specs.Visits.{Visit, visit_of, lengths_of, HoldsValue, HoldsInt, IsArrayOf, Pushed, HasArray, Branched, DidRow}
 use Rattle.counted_laws.specs.Paths.{HoldKnown}
 use Rattle.counted_laws.proofs.Storing.{replaced_same, replaced_other, stored_same, stored_keeps}
 use Rattle.counted_laws.proofs.Lengths.{length_at, last_length}
@@ -428,7 +428,7 @@ module _ (P : Program) (limits : Limits) (known : Known) (s : State) (f : Frame)
       let old = or_fault_in s.objects f.pc next b ArrayIndexOutOfBoundsException (slice_get o.1.parts k.0) _ at k.2 in
       old.2
 
-  pub does : (r : Row) → D (effect P limits s f next r) → Does P known r f.pc next a b
+  pub does : (r : Row) → D (effect P limits s f next r) → DidRow P known r f.pc next a b
   does (rows.Push v) e = pushes v e
   does (rows.GetStatic k) e = (
     λ x constant never. pushes (Int x) (subst (λ (o : Option Value). D (on o (λ v. Go next f.locals (v ∷ f.operands)))) (hold.constants k x constant never) e),
@@ -464,7 +464,7 @@ module _ (P : Program) (limits : Limits) (known : Known) (s : State) (f : Frame)
   does r e = tt
 
 -- an invoke does nothing of these
-pub call_does : (P : Program) (known : Known) (r : Row) (p next : ℕ) (a b : Visit) → is_call r ≡ true → Does P known r p next a b
+pub call_does : (P : Program) (known : Known) (r : Row) (p next : ℕ) (a b : Visit) → is_call r ≡ true → DidRow P known r p next a b
 call_does P known (rows.CallStatic m) p next a b call = tt
 call_does P known (rows.CallSpecial named m) p next a b call = tt
 call_does P known (rows.CallVirtual named m) p next a b call = tt

@@ -22,14 +22,14 @@ use Rattle.method_flow.specs.Shapes.{node_of, IsGoingOn}
 use Rattle.code_lines.specs.Lines.{IsLine, Writes}
 use Rattle.further_rules.specs.Known.{Known}
 use Rattle.method_runs.specs.Standing.{last_node}
-use Rattle.counted_laws.specs.Visits.{Visit, visit_of, HoldsValue, Does}
+use Rattle.counted_laws.specs.Visits.{Visit, visit_of, HoldsValue, DidRow}
 use Rattle.counted_laws.specs.Paths.{HoldKnown}
 use Rattle.counted_laws.proofs.Lengths.{Written, was_written}
 use Rattle.counted_laws.proofs.Doing.{KeepsValues, MadeBy, WrittenBy, Tame, tame, Comes, does}
 
 -- what is known of two visits but for the edge between them and for lengths
 pub record Facts (P : Program) (known : Known) (m : ℕ) (a b : Visit) : Type 0 where
-  pub does : (p next : ℕ) (r : Row) → a.node ≡ At p → row_in P m p ≡ Some (next, r) → Does P known r p next a b
+  pub does : (p next : ℕ) (r : Row) → a.node ≡ At p → row_in P m p ≡ Some (next, r) → DidRow P known r p next a b
   pub keeps : (k : ℕ) (v : Value) → is_long v ≡ false → HoldsValue a.locals k v → ((p : ℕ) → a.node ≡ At p → Writes P m p k → ⊥) → HoldsValue b.locals k v
 
 -- the frame f, over these callers, was the top one, where there were these objects, and t is the next state
@@ -76,14 +76,14 @@ module _ (P : Program) (limits : Limits) (known : Known) (answer : Option ℕ) (
     line = record { start = start; is = row }
 
     -- the facts, by the row
-    facts : (b : Visit) → Does P known r f.pc next (visit_of (At f.pc) s.objects f) b → KeepsValues r f.locals b.locals → Facts P known f.method (visit_of (At f.pc) s.objects f) b
+    facts : (b : Visit) → DidRow P known r f.pc next (visit_of (At f.pc) s.objects f) b → KeepsValues r f.locals b.locals → Facts P known f.method (visit_of (At f.pc) s.objects f) b
     facts b doing keeping = record {
       does = λ p after q at is.
           let place : f.pc ≡ p = at_same f.pc p at in
           let here : row_in P f.method f.pc ≡ Some (after, q) = subst (λ (x : ℕ). row_in P f.method x ≡ Some (after, q)) (sym place) is in
           let pair : (next, r) ≡ (after, q) = some_same (next, r) (after, q) (sym row ∙ here) in
-          let D : ℕ × Row → Type 0 = λ x. Does P known x.1 f.pc x.0 (visit_of (At f.pc) s.objects f) b in
-          subst (λ (x : ℕ). Does P known q x after (visit_of (At f.pc) s.objects f) b) place (subst D pair doing);
+          let D : ℕ × Row → Type 0 = λ x. DidRow P known x.1 f.pc x.0 (visit_of (At f.pc) s.objects f) b in
+          subst (λ (x : ℕ). DidRow P known q x after (visit_of (At f.pc) s.objects f) b) place (subst D pair doing);
       keeps = λ k v short holds none. keeping k v short holds (λ c. none f.pc refl (next, r, line, c));
     }
 
@@ -93,7 +93,7 @@ module _ (P : Program) (limits : Limits) (known : Known) (answer : Option ℕ) (
     abbrev Behind : Visit → Type 0
     Behind b = Comes s.objects f.pc e b
 
-    abbrev doing : (b : Visit) → Behind b → Does P known r f.pc next (visit_of (At f.pc) s.objects f) b
+    abbrev doing : (b : Visit) → Behind b → DidRow P known r f.pc next (visit_of (At f.pc) s.objects f) b
     doing b c = does P limits known s f next hold b r c
 
     -- within the method

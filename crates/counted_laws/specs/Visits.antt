@@ -62,37 +62,37 @@ Branched p next offset true b = (q : ℕ) × IsAtOffset p offset q × (b.node �
 Branched p next offset false b = b.node ≡ At next
 
 -- What an instruction with this row did, from the visit of it to the next. One that may raise did it where control went on to the place behind.
-abbrev pub Does : Program → Known → Row → (p next : ℕ) → (a b : Visit) → Type 0
-Does P known (rows.Push v) p next a b = Pushed next v a b
-Does P known (rows.GetStatic f) p next a b =
+abbrev pub DidRow : Program → Known → Row → (p next : ℕ) → (a b : Visit) → Type 0
+DidRow P known (rows.Push v) p next a b = Pushed next v a b
+DidRow P known (rows.GetStatic f) p next a b =
     ((x : ℤ) → known.constants f ≡ Some x → IsNeverPut P f → Pushed next (Int x) a b) × ((n : ℕ) → known.statics f ≡ Some n → HasArray n a.operands b)
-Does P known (rows.GetField named owner index) p next a b =
+DidRow P known (rows.GetField named owner index) p next a b =
     (v : Value) (rest : List Value) (n : ℕ) → a.operands ≡ v ∷ rest → known.fields owner index ≡ Some n → b.node ≡ At next → HasArray n rest b
-Does P known (rows.Load (Numbers IntType) k) p next a b = (x : ℤ) × HoldsInt a.locals k x × Pushed next (Int x) a b
-Does P known (rows.Load References k) p next a b = (v : Value) × (is_moved References v ≡ true) × HoldsValue a.locals k v × Pushed next v a b
-Does P known (rows.Store (Numbers IntType) k) p next a b = (x : ℤ) (rest : List Value) → a.operands ≡ Int x ∷ rest → HoldsInt b.locals k x
-Does P known (rows.Store References k) p next a b = (v : Value) (rest : List Value) → a.operands ≡ v ∷ rest → HoldsValue b.locals k v
-Does P known (rows.Increment k n) p next a b = (x : ℤ) → HoldsInt a.locals k x → HoldsInt b.locals k (int_wrap w32 (x +ℤ n))
-Does P known (rows.Compute (IntType ∷ IntType ∷ []) IntType compute) p next a b =
+DidRow P known (rows.Load (Numbers IntType) k) p next a b = (x : ℤ) × HoldsInt a.locals k x × Pushed next (Int x) a b
+DidRow P known (rows.Load References k) p next a b = (v : Value) × (is_moved References v ≡ true) × HoldsValue a.locals k v × Pushed next v a b
+DidRow P known (rows.Store (Numbers IntType) k) p next a b = (x : ℤ) (rest : List Value) → a.operands ≡ Int x ∷ rest → HoldsInt b.locals k x
+DidRow P known (rows.Store References k) p next a b = (v : Value) (rest : List Value) → a.operands ≡ v ∷ rest → HoldsValue b.locals k v
+DidRow P known (rows.Increment k n) p next a b = (x : ℤ) → HoldsInt a.locals k x → HoldsInt b.locals k (int_wrap w32 (x +ℤ n))
+DidRow P known (rows.Compute (IntType ∷ IntType ∷ []) IntType compute) p next a b =
     (y x z : ℤ) (rest : List Value) → a.operands ≡ Int y ∷ Int x ∷ rest → compute y x ≡ Some z → b.operands ≡ Int (int_wrap w32 z) ∷ rest
-Does P known (rows.Branch (IntType ∷ []) test offset) p next a b = (x : ℤ) (rest : List Value) → a.operands ≡ Int x ∷ rest
+DidRow P known (rows.Branch (IntType ∷ []) test offset) p next a b = (x : ℤ) (rest : List Value) → a.operands ≡ Int x ∷ rest
     → Branched p next offset (test x) b
-Does P known (rows.Branch (IntType ∷ IntType ∷ []) test offset) p next a b =
+DidRow P known (rows.Branch (IntType ∷ IntType ∷ []) test offset) p next a b =
     (y x : ℤ) (rest : List Value) → a.operands ≡ Int y ∷ Int x ∷ rest → Branched p next offset (test y x) b
-Does P known (rows.Shuffle rows.Copy rows.One rows.Zero) p next a b = (v : Value) (rest : List Value) → a.operands ≡ v ∷ rest → b.operands ≡ v ∷ v ∷ rest
-Does P known (rows.NewNumbers code) p next a b = (n : ℕ) (rest : List Value) → a.operands ≡ Int (pos n) ∷ rest → b.node ≡ At next → HasArray n rest b
-Does P known (rows.NewReferences kind) p next a b = (n : ℕ) (rest : List Value) → a.operands ≡ Int (pos n) ∷ rest → b.node ≡ At next → HasArray n rest b
-Does P known rows.Length p next a b =
+DidRow P known (rows.Shuffle rows.Copy rows.One rows.Zero) p next a b = (v : Value) (rest : List Value) → a.operands ≡ v ∷ rest → b.operands ≡ v ∷ v ∷ rest
+DidRow P known (rows.NewNumbers code) p next a b = (n : ℕ) (rest : List Value) → a.operands ≡ Int (pos n) ∷ rest → b.node ≡ At next → HasArray n rest b
+DidRow P known (rows.NewReferences kind) p next a b = (n : ℕ) (rest : List Value) → a.operands ≡ Int (pos n) ∷ rest → b.node ≡ At next → HasArray n rest b
+DidRow P known rows.Length p next a b =
     (v : Value) (rest : List Value) (n : ℕ) → a.operands ≡ v ∷ rest → IsArrayOf a.lengths n v → b.node ≡ At next → b.operands ≡ Int (pos n) ∷ rest
-Does P known (rows.StoreNumber t codes kept) p next a b =
+DidRow P known (rows.StoreNumber t codes kept) p next a b =
     (x i v : Value) (rest : List Value) → a.operands ≡ x ∷ i ∷ v ∷ rest → b.node ≡ At next → b.operands ≡ rest
-Does P known r p next a b = Unit {0}
+DidRow P known r p next a b = Unit {0}
 
 -- the frame went from one visit to the next, along an edge of its method
 pub record Passes (P : Program) (known : Known) (m : ℕ) (a b : Visit) : Type 0 where
   pub edge : IsEdge P m a.node b.node
   pub start : (p : ℕ) → a.node ≡ At p → IsSomeAnd (body_of P m) (λ c. IsStart c.code p)
-  pub does : (p next : ℕ) (r : Row) → a.node ≡ At p → row_in P m p ≡ Some (next, r) → Does P known r p next a b
+  pub does : (p next : ℕ) (r : Row) → a.node ≡ At p → row_in P m p ≡ Some (next, r) → DidRow P known r p next a b
   -- a local variable that holds a value, but for a long, does so until it is written
   pub keeps : (k : ℕ) (v : Value) → is_long v ≡ false → HoldsValue a.locals k v → ((p : ℕ) → a.node ≡ At p → ¬ Writes P m p k) → HoldsValue b.locals k v
   pub grows : Grows a.lengths b.lengths

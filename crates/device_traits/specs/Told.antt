@@ -9,16 +9,16 @@ use Rattle.device_traits.specs.declared.fault.DeviceFault.TheVariants.{Input, Ou
 use Rattle.device_traits.specs.declared.seen.Seen.{Seen}
 
 -- a thing that a device notes: a byte that it was given, or a state that it was handed
-pub data Note : Type 0 where
-  Wrote : ℕ → Note
-  Saw : Seen → Note
+pub data DeviceNote : Type 0 where
+  Wrote : ℕ → DeviceNote
+  Saw : Seen → DeviceNote
 
 -- What is left of a device's input, what it holds of its output, what it has written of all that it noted and which states it was handed, each where it
 -- tells; the line that it writes of a thing, if any. Its counts of faults.
 pub record Told : Type 0 where
   pub left : Option (List ℕ)
   pub held : Option (List ℕ)
-  pub line : Note → List ℕ
+  pub line : DeviceNote → List ℕ
   pub noted : Option (List ℕ)
   pub handed : Option (List Seen)
   pub read_faults : ℕ
@@ -26,16 +26,16 @@ pub record Told : Type 0 where
   pub seen_faults : ℕ
 
 -- a device that writes nothing of what it notes
-abbrev pub silent : Note → List ℕ
+abbrev pub silent : DeviceNote → List ℕ
 silent note = []
 
 -- the lines of things in order grew what it has written, which goes on to write such lines
-pub record Noted (old new : Told) (notes : List Note) : Type 0 where
+pub record Noted (old new : Told) (notes : List DeviceNote) : Type 0 where
   pub line : new.line ≡ old.line
   pub written : Grew old.noted new.noted (flat_map old.line notes)
 
 -- A device was given these bytes and handed these states, noted all of it in this order, and no byte was taken from it.
-pub record Passed (old new : Told) (out : List ℕ) (seen : List Seen) (notes : List Note) : Type 0 where
+pub record Passed (old new : Told) (out : List ℕ) (seen : List Seen) (notes : List DeviceNote) : Type 0 where
   pub left : new.left ≡ old.left
   pub held : Grew old.held new.held out
   pub noted : Noted old new notes
@@ -47,12 +47,12 @@ pub record GrewInPart {A : Type 0} (old new : Option (List A)) (more last : List
       → (xs : List A) × (old ≡ Some xs) × (front : List A) × (rest : List A) × (last ≡ front ++ rest) × (rest ≡ [] → front ≡ []) × (ys ≡ xs ++ (more ++ front))
 
 -- the lines of things in order and a front of one more
-pub record NotedInPart (old new : Told) (notes : List Note) (last : Note) : Type 0 where
+pub record NotedInPart (old new : Told) (notes : List DeviceNote) (last : DeviceNote) : Type 0 where
   pub line : new.line ≡ old.line
   pub written : GrewInPart old.noted new.noted (flat_map old.line notes) (old.line last)
 
 -- A device was handed these states and noted them, and of one thing more, on which it failed, no more than a part. Nothing was put out or taken.
-pub record PassedInPart (old new : Told) (seen : List Seen) (notes : List Note) (last : Note) : Type 0 where
+pub record PassedInPart (old new : Told) (seen : List Seen) (notes : List DeviceNote) (last : DeviceNote) : Type 0 where
   pub left : new.left ≡ old.left
   pub held : Grew old.held new.held []
   pub noted : NotedInPart old new notes last
@@ -93,23 +93,23 @@ GivesFirst None new byte = Unit {0}
 GivesFirst (Some (b ∷ bytes)) new byte = (byte ≡ Some b) × (new ≡ Some bytes)
 GivesFirst (Some []) new byte = (byte ≡ None) × (new ≡ Some [])
 
-abbrev pub Gives : Option (List ℕ) → Option (List ℕ) → Option ℕ → Type 0
-Gives old new byte = IsGiven byte × GivesFirst old new byte
+abbrev pub GivesByte : Option (List ℕ) → Option (List ℕ) → Option ℕ → Type 0
+GivesByte old new byte = IsGiven byte × GivesFirst old new byte
 
 -- a byte was asked for, and all else stays
 pub record TookByte (old new : Told) (byte : Option ℕ) : Type 0 where
-  pub left : Gives old.left new.left byte
+  pub left : GivesByte old.left new.left byte
   pub held : Grew old.held new.held []
   pub noted : Noted old new []
   pub handed : Grew old.handed new.handed []
 
 -- where a byte was asked for it was given, and else nothing was
 abbrev pub GivesWhere : (asked : Bool) → Option (List ℕ) → Option (List ℕ) → Option ℕ → Type 0
-GivesWhere true old new byte = Gives old new byte
+GivesWhere true old new byte = GivesByte old new byte
 GivesWhere false old new byte = (new ≡ old) × (byte ≡ None)
 
 -- A device gave a byte where one was asked for, was given these bytes and handed these states, and noted what it was given in this order.
-pub record Exchanged (old new : Told) (asked : Bool) (byte : Option ℕ) (out : List ℕ) (seen : List Seen) (notes : List Note) : Type 0 where
+pub record Exchanged (old new : Told) (asked : Bool) (byte : Option ℕ) (out : List ℕ) (seen : List Seen) (notes : List DeviceNote) : Type 0 where
   pub left : GivesWhere asked old.left new.left byte
   pub held : Grew old.held new.held out
   pub noted : Noted old new notes
@@ -118,10 +118,10 @@ pub record Exchanged (old new : Told) (asked : Bool) (byte : Option ℕ) (out : 
 -- these answers were given, one after the other
 abbrev pub GivesEach : Option (List ℕ) → Option (List ℕ) → List (Option ℕ) → Type 0
 GivesEach old new [] = new ≡ old
-GivesEach old new (answer ∷ answers) = (mid : Option (List ℕ)) × Gives old mid answer × GivesEach mid new answers
+GivesEach old new (answer ∷ answers) = (mid : Option (List ℕ)) × GivesByte old mid answer × GivesEach mid new answers
 
 -- A device gave these answers, was given these bytes and handed these states, noted what it was given in this order, and none of its counts fell.
-pub record Attended (old new : Told) (answers : List (Option ℕ)) (out : List ℕ) (seen : List Seen) (notes : List Note) : Type 0 where
+pub record Attended (old new : Told) (answers : List (Option ℕ)) (out : List ℕ) (seen : List Seen) (notes : List DeviceNote) : Type 0 where
   pub left : GivesEach old.left new.left answers
   pub held : Grew old.held new.held out
   pub noted : Noted old new notes

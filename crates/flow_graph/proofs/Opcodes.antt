@@ -7,14 +7,14 @@ use Rattle.opcodes.specs.declared.instruction.DecodeFault.TheVariants.{Short}
 use Rattle.opcodes.specs.Bytes.{u1}
 use Rattle.opcodes.specs.Form.{Form, NotAnOpcode, Fixed, Widened, TableSwitch, LookupSwitch, Wide}
 use Rattle.opcodes.specs.Instruction.{decoded, fixed_at, lookup_switch_at, spelled_at, table_switch_at, widened_at, within}
-use Rattle.opcodes.specs.Row.{Row, find_row, no_row, row_of, rows}
+use Rattle.opcodes.specs.Row.{OpcodeRow, find_row, no_row, row_of, rows}
 use Rattle.opcodes.proofs.FaultLemmas.{is_widened}
 use Rattle.opcodes.proofs.ReadLemmas.{within-Ok}
 use Rattle.flow_graph.specs.Edges.{is_return, raises_in, returns_in}
 
 -- ---- what holds of each row holds of an opcode's
 
-each_row : (Row → Bool) → List Row → Bool
+each_row : (OpcodeRow → Bool) → List OpcodeRow → Bool
 each_row test [] = true
 each_row test (r ∷ rs) = test r && each_row test rs
 
@@ -26,18 +26,18 @@ second_true : (a b : Bool) → (a && b) ≡ true → b ≡ true
 second_true true b h = h
 second_true false b h = absurd (let e : ⊥ = cc in e)
 
-either_row : (test : Row → Bool) (b : Bool) (r other : Row) → test r ≡ true → test other ≡ true → test (if b then r else other) ≡ true
+either_row : (test : OpcodeRow → Bool) (b : Bool) (r other : OpcodeRow) → test r ≡ true → test other ≡ true → test (if b then r else other) ≡ true
 either_row test true r other here there = here
 either_row test false r other here there = there
 
-found_row : (test : Row → Bool) (byte : ℕ) (rs : List Row) → each_row test rs ≡ true → test (no_row byte) ≡ true → test (find_row byte rs) ≡ true
+found_row : (test : OpcodeRow → Bool) (byte : ℕ) (rs : List OpcodeRow) → each_row test rs ≡ true → test (no_row byte) ≡ true → test (find_row byte rs) ≡ true
 unfolding each_row
 found_row test byte [] all none = none
 found_row test byte (r ∷ rs) all none =
     either_row test (r.number == byte) r (find_row byte rs) (first_true (test r) (each_row test rs) all) (found_row test byte rs (second_true (test r) (each_row test rs) all) none)
 
 -- none that may stand behind `wide` raises or returns
-abbrev is_quiet : Row → Bool
+abbrev is_quiet : OpcodeRow → Bool
 is_quiet r = if is_widened r.form then not r.raises && not (is_return r.kind) else true
 
 quiet_rows : each_row is_quiet rows ≡ true

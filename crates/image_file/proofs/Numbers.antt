@@ -7,7 +7,7 @@ use Rattle.std.specs.Prelude.{MatchOption}
 use Rattle.std.specs.List.{IsSplitAt}
 use Rattle.image_file.specs.Front.{FindsItem}
 use Rattle.std.specs.Int.{w16, w32, from_be_bytes}
-use Rattle.image_file.specs.Linked.{IsHalf, IsWord, IsName, IsFile, u2, u4, name_bytes, file_bytes}
+use Rattle.image_file.specs.Linked.{IsHalfWord, IsWord, IsName, IsFile, u2, u4, name_bytes, file_bytes}
 
 abbrev pub IsBytes : List ℕ → Type 0
 IsBytes bytes = (i : ℕ) → get_or bytes i 0 < 256
@@ -36,7 +36,7 @@ IsBytes-behind bytes front rest h is =
 abbrev pub Unique : {X : Type 0} → (X → List ℕ) → (X → Type 0) → Type 0
 Unique {X} spelled Fits = (x y : X) (s t : List ℕ) → Fits x → Fits y → spelled x ++ s ≡ spelled y ++ t → (x ≡ y) × (s ≡ t)
 
-pub u2_unique : Unique u2 IsHalf
+pub u2_unique : Unique u2 IsHalfWord
 u2_unique x y s t fx fy e =
     let same : x ≡ y = sym (from_be_bytes-to_be_bytes_2 x fx) ∙ ap (from_be_bytes w16) e ∙ from_be_bytes-to_be_bytes_2 y fy in
     (same, sym (drop_at (u2 x) s 2 refl) ∙ ap (drop 2) e ∙ drop_at (u2 y) t 2 refl)
@@ -94,7 +94,7 @@ counted_unique number Fits unique x y s t fx fy e =
     same_front x y s t outer.0 outer.1
 
 pub name_unique : Unique name_bytes IsName
-name_unique = counted_unique u2 IsHalf u2_unique
+name_unique = counted_unique u2 IsHalfWord u2_unique
 
 pub file_unique : Unique file_bytes IsFile
 file_unique = counted_unique u4 IsWord u4_unique
@@ -126,12 +126,12 @@ counted_split number Fits unique bytes n behind None fits is short = counted_cut
 counted_split number Fits unique bytes n behind (Some p) fits is split =
     (subst Fits (sym split.3) fits, counted_found number bytes n behind p.0.now p.1.now is split.3 (split_parts behind n p.0.now p.1.now split))
 
-pub name_absent : (bytes : List ℕ) → ((n : ℕ) (rest : List ℕ) → IsHalf n → bytes ≡ u2 n ++ rest → ⊥) → (run rest : List ℕ) → IsName run → bytes ≡ name_bytes run ++ rest → ⊥
-name_absent = counted_absent u2 IsHalf
+pub name_absent : (bytes : List ℕ) → ((n : ℕ) (rest : List ℕ) → IsHalfWord n → bytes ≡ u2 n ++ rest → ⊥) → (run rest : List ℕ) → IsName run → bytes ≡ name_bytes run ++ rest → ⊥
+name_absent = counted_absent u2 IsHalfWord
 
-pub name_split : (bytes : List ℕ) (n : ℕ) (behind : List ℕ) (r : Option (Bor (List ℕ) × Bor (List ℕ))) → IsHalf n → bytes ≡ u2 n ++ behind
+pub name_split : (bytes : List ℕ) (n : ℕ) (behind : List ℕ) (r : Option (Bor (List ℕ) × Bor (List ℕ))) → IsHalfWord n → bytes ≡ u2 n ++ behind
     → MatchOption r (length behind < n) (λ p. IsSplitAt behind n p.0.now p.1.now) → FindsItem (λ x. (x.0.now, x.1.now)) name_bytes IsName bytes r
-name_split = counted_split u2 IsHalf u2_unique
+name_split = counted_split u2 IsHalfWord u2_unique
 
 pub file_absent : (bytes : List ℕ) → ((n : ℕ) (rest : List ℕ) → IsWord n → bytes ≡ u4 n ++ rest → ⊥) → (run rest : List ℕ) → IsFile run → bytes ≡ file_bytes run ++ rest → ⊥
 file_absent = counted_absent u4 IsWord

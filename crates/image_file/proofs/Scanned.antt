@@ -5,7 +5,7 @@ use Rattle.std.proofs.lemmas.Bool.{and_parts}
 use Rattle.std.specs.declared.option.Option.{Option}
 use Rattle.image_file.specs.declared.bare.shape.Shape.{Shape}
 use Rattle.image_file.specs.Shapes.{shape_of}
-use Rattle.image_file.specs.Bare.{Instruction, StayWithin, spelled, return_code}
+use Rattle.image_file.specs.Bare.{Instruction, KeepLimits, spelled, return_code}
 use Rattle.image_file.specs.Scan.{scan, shape_fits, depth_after, bytes_behind}
 
 -- a byte behind an opcode
@@ -24,7 +24,7 @@ pub record Pending (max_locals max_stack depth behind : ℕ) (bytes : List ℕ) 
   pub instructions : List Instruction
   pub count : length operands ≡ behind
   pub spelling : bytes ≡ operands ++ (spelled instructions ++ return_code ∷ [])
-  pub within : StayWithin max_locals max_stack depth instructions
+  pub within : KeepLimits max_locals max_stack depth instructions
 
 empty : (xs : List ℕ) → length xs ≡ 0 → xs ≡ []
 empty [] e = refl
@@ -105,7 +105,7 @@ not_return op s is =
     (two (op == return_code))
 
 -- code of the grammar is accepted by the scan
-pub scan-complete : (max_locals max_stack depth : ℕ) (is : List Instruction) → StayWithin max_locals max_stack depth is → scan max_locals max_stack depth 0 (spelled is ++ return_code ∷ []) ≡ true
+pub scan-complete : (max_locals max_stack depth : ℕ) (is : List Instruction) → KeepLimits max_locals max_stack depth is → scan max_locals max_stack depth 0 (spelled is ++ return_code ∷ []) ≡ true
 scan-complete l r d [] within = refl
 scan-complete l r d (i ∷ is) within =
     let s : Shape = within.0 in

@@ -31,10 +31,10 @@ pub record InstructionFits (max_locals max_stack depth : ℕ) (i : Instruction) 
   pub pushes : depth - s.pops + s.pushes ≤ max_stack
 
 -- from so many operands on, the instructions keep the stack within 0 and max_stack, and their locals are below max_locals
-abbrev pub StayWithin : (max_locals max_stack depth : ℕ) → List Instruction → Type 0
-StayWithin max_locals max_stack depth [] = Unit {0}
-StayWithin max_locals max_stack depth (i ∷ is) =
-    (s : Shape) × InstructionFits max_locals max_stack depth i s × StayWithin max_locals max_stack (depth - s.pops + s.pushes) is
+abbrev pub KeepLimits : (max_locals max_stack depth : ℕ) → List Instruction → Type 0
+KeepLimits max_locals max_stack depth [] = Unit {0}
+KeepLimits max_locals max_stack depth (i ∷ is) =
+    (s : Shape) × InstructionFits max_locals max_stack depth i s × KeepLimits max_locals max_stack (depth - s.pops + s.pushes) is
 
 -- return, which stands at the end and nowhere else
 abbrev pub return_code : ℕ
@@ -47,7 +47,7 @@ pub record IsBareContent (image : BareContent) : Type 0 where
   pub bytes : (k : ℕ) → slice_index image.code k < 2 ^ 8
   pub instructions : List Instruction
   pub code : image.code ≡ spelled instructions ++ return_code ∷ []
-  pub within : StayWithin image.max_locals image.max_stack 0 instructions
+  pub within : KeepLimits image.max_locals image.max_stack 0 instructions
 
 -- the bytes of a number of 16 and of 32 bits, the high one first
 abbrev pub half : ℕ → List ℕ

@@ -11,8 +11,8 @@ pub record LinkedContent : Type 0 where
   pub files : List (List ℕ)
 
 -- numbers of 16 and of 32 bits
-abbrev pub IsHalf : ℕ → Type 0
-IsHalf n = n < 2 ^ 16
+abbrev pub IsHalfWord : ℕ → Type 0
+IsHalfWord n = n < 2 ^ 16
 
 abbrev pub IsWord : ℕ → Type 0
 IsWord n = n < 2 ^ 32
@@ -26,7 +26,7 @@ u4 n = to_be_bytes w32 n
 
 -- a name has a length of 16 bits and a file one of 32 bits
 abbrev pub IsName : List ℕ → Type 0
-IsName name = IsHalf (length name)
+IsName name = IsHalfWord (length name)
 
 abbrev pub IsFile : List ℕ → Type 0
 IsFile file = IsWord (length file)

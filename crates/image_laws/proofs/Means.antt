@@ -8,7 +8,7 @@ use Rattle.program_laws.proofs.Rows.{instr_ok, operand_is}
 use Rattle.class_pool.specs.declared.entry.Entry.{Entry}
 use Rattle.class_pool.specs.declared.entry.Entry.TheVariants as entries
 use Rattle.class_pool.specs.Grammar.{entry_at, text_at}
-use Rattle.class_pool.specs.Spelling.{IsInRange}
+use Rattle.class_pool.specs.Spelling.{IsEntryInRange}
 use Rattle.class_pool.specs.Found.{code_of}
 use Rattle.class_pool.specs.declared.class.ClassFile.{ClassFile}
 use Rattle.class_rules.specs.Found.{MethodsHaveCode}
@@ -166,7 +166,7 @@ module _ (laws : EntryLaws) (cs : List ClassFile) (r : IsResolved cs) (small : I
   abbrev IsGood : Named → List ℕ → Type 0
   IsGood named words = Both cs op (operand_by cs cn c op named) words
 
-  in_pool : (e : Entry) (named : Named) → IsAt cs cn c n q e named → IsInRange e
+  in_pool : (e : Entry) (named : Named) → IsAt cs cn c n q e named → IsEntryInRange e
   in_pool e named a = range_of (entry_at c.pool index) e (in_range c.pool index (all_at IsClass cs cn c r.grammar a.class).pool.in_range) a.entry
 
   names_it : (e : Entry) (named : Named) → IsAt cs cn c n q e named → named_in c q.instr ≡ Some named

@@ -2,7 +2,7 @@
 use Rattle.std.proofs.Common.{◌≡◌, ℕ, zero, suc, ◌<◌, ◌≤◌, Bool, true, false, not, ◌&&◌, eqb, inl, inr, List, [], ◌∷◌, ◌++◌, Option, Some, None, Result, Ok, Err, ◌+◌, map, take, length, length-append, get_or, set, length-set, append-nil, refl, sym, ap, ap₂, ◌∙◌, subst, arith}
 use Rattle.std.specs.Prelude.{slice_get, is_some, if◌then◌else◌}
 use Rattle.lists.proofs.Lemmas.{none≢some, some_same}
-use Rattle.program_tables.specs.Tables.{HasBounds}
+use Rattle.program_tables.specs.Tables.{HasFileLimits}
 use Rattle.std.specs.Option.{option_map, option_or}
 use Rattle.std.specs.List.{filter, filter_map, find, range_with_len, AllByRecursion}
 use Rattle.std.proofs.lemmas.Bool.{false≢true, cases_Bool, eqb-true, eqb-false}
@@ -149,7 +149,7 @@ place_passed cs c k before code pcs i pc many old at none h = by (decoded code p
 
 -- ---- classes within bounds
 
-pub bounded : (cs : List ClassFile) (n : ℕ) (k : ClassFile) → AllByRecursion HasBounds cs → slice_get cs n ≡ Some k → HasBounds k
+pub bounded : (cs : List ClassFile) (n : ℕ) (k : ClassFile) → AllByRecursion HasFileLimits cs → slice_get cs n ≡ Some k → HasFileLimits k
 bounded [] n k h e = absurd (none≢some k e)
-bounded (c ∷ cs) zero k h e = subst HasBounds (some_same c k e) h.0
+bounded (c ∷ cs) zero k h e = subst HasFileLimits (some_same c k e) h.0
 bounded (c ∷ cs) (suc n) k h e = bounded cs n k h.1 e

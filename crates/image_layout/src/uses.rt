@@ -6,7 +6,7 @@ ghost use Rattle.class_pool.specs.declared.class.ClassFile.{ClassFile};
 ghost use Rattle.class_pool.specs.Found.{code_of};
 ghost use Rattle.opcodes.specs.declared.instruction.Instr.{Instr};
 ghost use Rattle.program_tables.specs.Instructions as definitions;
-ghost use Rattle.program_tables.specs.Tables.{HasBounds};
+ghost use Rattle.program_tables.specs.Tables.{HasFileLimits};
 ghost use Rattle.image_words.specs.Pools.{instructions_in};
 ghost use Rattle.image_words.specs.Outline.{IsOutline};
 ghost use Rattle.image_layout.specs.Uses.{instr_of, use_of, again, fixed_place};

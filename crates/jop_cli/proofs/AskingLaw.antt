@@ -20,7 +20,7 @@ use Rattle.commands.specs.Phase.{is_linked as is_linked_file}
 use Rattle.commands.specs.World.{IsQuiet, IsUntaken}
 use Rattle.commands.specs.Linking.{files_of, OperandsFault}
 use Rattle.jop_cli.specs.Asking.{IsAnswer, AnswersLinked, Answers, PutsAnswer, AsksRead, AsksFiles}
-use Rattle.jop_cli.specs.Calls.{Call, NothingFailed, AreTold}
+use Rattle.jop_cli.specs.Calls.{Call, NothingFailed, OperandsAreTold}
 use Rattle.jop_cli.proofs.Wholly.{same_files, files_read}
 use Rattle.jop_cli.proofs.RunningLaw.{begins_linked, is_read}
 
@@ -35,7 +35,7 @@ pub data Comes (c : Call) (asked : Asked) (l : Parts) (operands : List (List ℕ
   says : IsAnswer c.words asked.question l operands (Ends ending) → IsQuiet c.old c.new → IsSound l → Comes c asked l operands ending
   lacking : ending ≡ endings.NoMemory → IsQuiet c.old c.new → Comes c asked l operands ending
 
-module _ (linked_one : OneLinked) (images : LinkedImagesAreRead) (c : Call) (n : NothingFailed c) (asked : Asked) (l : Parts) (operands : List (List ℕ)) (many : asked.image + asked.operands ≡ c.old.words) (told : AreTold c asked.image operands) (is_linked : IsLinked l) (is_file : file.IsLinkedFile (text_of_word operands 0) (image_of l)) where
+module _ (linked_one : OneLinked) (images : LinkedImagesAreRead) (c : Call) (n : NothingFailed c) (asked : Asked) (l : Parts) (operands : List (List ℕ)) (many : asked.image + asked.operands ≡ c.old.words) (told : OperandsAreTold c asked.image operands) (is_linked : IsLinked l) (is_file : file.IsLinkedFile (text_of_word operands 0) (image_of l)) where
   of_linked : (answer : Answer) → AnswersLinked c.words asked.question operands answer → IsAnswer c.words asked.question l operands answer
   of_linked answer r =
       let same : r.linked ≡ l = linked_one (text_of_word operands 0) r.linked l r.is_linked is_linked r.is_file is_file in

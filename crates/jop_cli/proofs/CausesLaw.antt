@@ -1,7 +1,7 @@
 -- A cause that forbids a bound is the one that is answered.
 use Rattle.std.proofs.Common.{◌≡◌, ℕ, List, Some, refl, sym, ◌∙◌, ap, ap₂, ◌⊎◌, inl, inr}
 use Rattle.lists.proofs.Lemmas.{some_same}
-use Rattle.program_tables.specs.Resolved.{resolved}
+use Rattle.program_tables.specs.Resolved.{resolved, method_name}
 use Rattle.method_names.specs.Names.{NamesAreOne}
 use Rattle.loop_bounds.specs.Bounds.{LoopBound}
 use Rattle.loop_bounds.specs.Laws.{GivesOne, ReadIsNotRefused}
@@ -11,8 +11,7 @@ use Rattle.bound_laws.specs.Existing.{ResolvedCodesAreShort, HaveOwnCosts, OwnCo
 use Rattle.bound_laws.specs.Causes.{IsForbidding, Bears, IsSameRefusal, RefusalsAreOne, PrintedIsNotForbidden}
 use Rattle.answer_lines.specs.declared.bound.BoundCause.{BoundCause}
 use Rattle.answer_lines.specs.declared.bound.BoundCause.TheVariants as causes
-use Rattle.answer_lines.specs.declared.unanswered.Cause.TheVariants as unanswered
-use Rattle.analysis_commands.specs.Analysis.{timing_of, bounds_of, name_of}
+use Rattle.analysis_commands.specs.Analysis.{timing_of, bounds_of}
 use Rattle.analysis_commands.specs.Bounding.{cause_of}
 use Rattle.command_line.specs.declared.command.Settings.{Settings}
 use Rattle.command_line.specs.Range.{AreSettings}
@@ -32,7 +31,7 @@ use Rattle.jop_cli.proofs.BoundingLaw.{Settled, bounded, forbidden, lacking, set
 
 -- it forbids a bound in the sense of the law
 in_law : (s : Settings) (l : Parts) (lines : List LoopBound) (name : List ℕ) (refusal : BoundRefusal) → Forbids s l lines name refusal
-    → IsForbidding (resolved l.classes) (timing_of s) (bounds_of l.classes lines) (Bears (name_of l.classes) name) refusal
+    → IsForbidding (resolved l.classes) (timing_of s) (bounds_of l.classes lines) (Bears (method_name l.classes) name) refusal
 in_law s l lines name forbids.NoMemory h = h
 in_law s l lines name forbids.NoMethod h = h
 in_law s l lines name (forbids.Recursion cycle) h = h
@@ -60,13 +59,13 @@ module _ (one : RefusalsAreOne) (none : PrintedIsNotForbidden) (costs : OwnCosts
   one_cause : IsSound l → (other : BoundRefusal) → Forbids s l lines name other → cause_of other ≡ Some cause
   one_cause sound other h =
       let same =
-      one (resolved l.classes) _ (timing_of s) (bounds_of l.classes lines) (name_of l.classes) name other refusal (sound.setting 0 0).typed (sound.setting 0 0).lawful (own_costs sound)
+      one (resolved l.classes) _ (timing_of s) (bounds_of l.classes lines) (method_name l.classes) name other refusal (sound.setting 0 0).typed (sound.setting 0 0).lawful (own_costs sound)
       (names l.classes sound.resolved) (in_law s l lines name other h) (in_law s l lines name refusal forbids_it) in
       same_cause other refusal same ∙ cause_is
 
   answers : (ending : Ending) → IsWholly c ending → Settled c s l lines name ending → AnswersForbidden c s l lines name cause ⊎ LacksMemory c
   answers ending w (bounded says d is grammar put holds sound) =
-      absurd (none (resolved l.classes) (timing_of s) (bounds_of l.classes lines) (name_of l.classes) name d.root d.bound refusal (names l.classes sound.resolved) is.asked is.no_cause is.printed
+      absurd (none (resolved l.classes) (timing_of s) (bounds_of l.classes lines) (method_name l.classes) name d.root d.bound refusal (names l.classes sound.resolved) is.asked is.no_cause is.printed
       (in_law s l lines name refusal forbids_it))
   answers ending w (forbidden other subject says found is other_is subject_is quiet sound) =
       let same = some_same other cause (sym other_is ∙ one_cause sound found (forbids_so s l lines name found other other_is is)) in

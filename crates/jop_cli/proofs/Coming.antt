@@ -49,7 +49,7 @@ boot_is_fresh P s h =
 
 -- ---- the output and the answers of a run
 
-module _ (g : Setting) (limit : ℕ) (reset : machine.State) (boot : State) (fresh : IsFresh boot) (last : Stage) (told told' : Told) (run : IsRun g limit (record { machine = reset; state = boot }) last told told') where
+module _ (g : Setting) (limit : ℕ) (reset : machine.MachineState) (boot : State) (fresh : IsFresh boot) (last : Stage) (told told' : Told) (run : IsRun g limit (record { machine = reset; state = boot }) last told told') where
   pub output_is : last.state.output ≡ output_during run.cycles (begun reset run.answers)
   output_is = run.put ∙ ap (λ (xs : List ℕ). xs ++ output_during run.cycles (begun reset run.answers)) fresh.output
 
@@ -64,7 +64,7 @@ module _ (g : Setting) (limit : ℕ) (reset : machine.State) (boot : State) (fre
 
 -- ---- the answer at a state
 
-module _ (c : Call) (cs : List ClassFile) (limit : ℕ) (now : machine.State) (mode : Mode) (counts : Counts) (are : AreCounts counts now) where
+module _ (c : Call) (cs : List ClassFile) (limit : ℕ) (now : machine.MachineState) (mode : Mode) (counts : Counts) (are : AreCounts counts now) where
   pub at_end : mode ≡ modes.Ended → IsWholly c (endings.Ended counts) → AnswersMode c cs limit now mode
   at_end is w = subst (AnswersMode c cs limit now) (sym is) (record { outcome = w.outcome; says = record { counts = counts; are = are; line = w.line } })
 
@@ -72,7 +72,7 @@ module _ (c : Call) (cs : List ClassFile) (limit : ℕ) (now : machine.State) (m
   at_uncaught class name is names w =
       subst (AnswersMode c cs limit now) (sym is) (record { outcome = w.outcome; name = name; names = names; says = record { counts = counts; are = are; line = w.line } })
 
-pub at_spent : (c : Call) (cs : List ClassFile) (limit : ℕ) (now : machine.State) (mode : Mode) (counts : Counts) → AreCounts counts now → IsGoing mode → limit ≤ now.clock → IsWholly c (endings.Spent counts) → AnswersMode c cs limit now mode
+pub at_spent : (c : Call) (cs : List ClassFile) (limit : ℕ) (now : machine.MachineState) (mode : Mode) (counts : Counts) → AreCounts counts now → IsGoing mode → limit ≤ now.clock → IsWholly c (endings.Spent counts) → AnswersMode c cs limit now mode
 at_spent c cs limit now modes.Running counts are going late w = record { outcome = w.outcome; late = late; says = record { counts = counts; are = are; line = w.line } }
 at_spent c cs limit now (modes.Raising p) counts are going late w = record { outcome = w.outcome; late = late; says = record { counts = counts; are = are; line = w.line } }
 at_spent c cs limit now modes.Ended counts are going late w = absurd going
@@ -80,12 +80,12 @@ at_spent c cs limit now (modes.Uncaught class) counts are going late w = absurd 
 
 -- ---- the whole
 
-module _ (c : Call) (cs : List ClassFile) (g : Setting) (reset : machine.State) (limit : ℕ) (old new : Lent) where
+module _ (c : Call) (cs : List ClassFile) (g : Setting) (reset : machine.MachineState) (limit : ℕ) (old new : Lent) where
   -- the answer at each state of which this holds, of a machine that is at `now`
-  abbrev Answering : (now : machine.State) → (State → Type 0) → Type 0
+  abbrev Answering : (now : machine.MachineState) → (State → Type 0) → Type 0
   Answering now K = (last : Stage) → last.machine ≡ now → K last.state → AnswersMode c cs limit last.machine last.state.mode
 
-  ran : IsSetting g → (boot : State) → boot_state g.program ≡ Some boot → (now : machine.State) (K : State → Type 0) → RunsOn g limit (record { machine = reset; state = boot }) now (wired old) (wired new) K → Answering now K
+  ran : IsSetting g → (boot : State) → boot_state g.program ≡ Some boot → (now : machine.MachineState) (K : State → Type 0) → RunsOn g limit (record { machine = reset; state = boot }) now (wired old) (wired new) K → Answering now K
       → RanProgram c cs g reset limit old new
   ran is_setting boot is_boot now K r answer =
       let fresh : IsFresh boot = boot_is_fresh g.program boot is_boot in
@@ -103,7 +103,7 @@ module _ (c : Call) (cs : List ClassFile) (g : Setting) (reset : machine.State) 
   abbrev begins : (cycles : Bool) → Told
   begins cycles = traced cycles old.left old.read_faults old.held old.write_faults old.write_faults
 
-  noted : IsSetting g → (cycles : Bool) (names : List (List ℕ)) (boot : State) → boot_state g.program ≡ Some boot → (now : machine.State) (K : State → Type 0) (after : Told)
+  noted : IsSetting g → (cycles : Bool) (names : List (List ℕ)) (boot : State) → boot_state g.program ≡ Some boot → (now : machine.MachineState) (K : State → Type 0) (after : Told)
       → TracesOn cycles names g limit (record { machine = reset; state = boot }) now (begins cycles) after K → after.left ≡ new.left → after.noted ≡ new.held → new.handed ≡ old.handed → Answering now K
       → TracedProgram c cs cycles names g reset limit old new
   noted is_setting cycles names boot is_boot now K after r left same watch answer =
@@ -121,11 +121,11 @@ module _ (c : Call) (cs : List ClassFile) (g : Setting) (reset : machine.State) 
         answers = answer r.last r.now_is r.holds;
       }
 
-  moved : (counts : Counts) (m now : machine.State) → m ≡ now → AreCounts counts now → AreCounts counts m
+  moved : (counts : Counts) (m now : machine.MachineState) → m ≡ now → AreCounts counts now → AreCounts counts m
   moved counts m now is are = subst (AreCounts counts) (sym is) are
 
-  later : (m now : machine.State) → m ≡ now → limit ≤ now.clock → limit ≤ m.clock
-  later m now is late = subst (λ (x : machine.State). limit ≤ x.clock) (sym is) late
+  later : (m now : machine.MachineState) → m ≡ now → limit ≤ now.clock → limit ≤ m.clock
+  later m now is late = subst (λ (x : machine.MachineState). limit ≤ x.clock) (sym is) late
 
   pub ended : (shown : Shown) (counts : Counts) → Ran shown g reset limit old new (run.ended ends.Ended counts) → IsWholly c (endings.Ended counts) → RanShown shown c cs g reset limit old new
   ended Output counts h w =

@@ -6,10 +6,10 @@ use Rattle.std.proofs.lemmas.Bool.{and_parts, both_ways, cases_lt}
 use Rattle.class_pool.specs.declared.class.ClassFile.{ClassFile}
 use Rattle.class_lookup.specs.Parts.{same_text}
 use Rattle.bytecode_model.specs.Program.{Body, body_of}
-use Rattle.program_tables.specs.Resolved.{resolved}
+use Rattle.program_tables.specs.Resolved.{resolved, method_name}
 use Rattle.program_resolution.proofs.NameLemmas.{same_self}
 use Rattle.jopizer.specs.Laws.{MainIsThere}
-use Rattle.analysis_commands.specs.Analysis.{name_of, named_or_number, number_text}
+use Rattle.analysis_commands.specs.Analysis.{named_or_number, number_text}
 use Rattle.analysis_commands.specs.Plan.{executive_name, IsCyclicMain, IsExecutive}
 use Rattle.jop_cli.specs.Correct.{ExecutivesAreThere}
 
@@ -52,11 +52,11 @@ module _ (cs : List ClassFile) where
       let parts = and_parts (is_some (body_of (resolved cs) m)) (same_text (named_or_number cs m) executive_name) h in
       record { coded = parts.0; is_named = texts.same_text (named_or_number cs m) executive_name (sym parts.1) }
 
-  named : (m : ℕ) (o : Option Body) → is_some o ≡ true → elim o [ None ↦ number_text m | Some b ↦ name_of cs m ] ≡ name_of cs m
+  named : (m : ℕ) (o : Option Body) → is_some o ≡ true → elim o [ None ↦ number_text m | Some b ↦ method_name cs m ] ≡ method_name cs m
   named m None h = absurd (both_ways false refl h)
   named m (Some b) h = refl
 
-  executive : (m : ℕ) → IsSome (body_of (resolved cs) m) → name_of cs m ≡ executive_name → (e : ℕ) × IsExecutive (resolved cs) (named_or_number cs) e
+  executive : (m : ℕ) → IsSome (body_of (resolved cs) m) → method_name cs m ≡ executive_name → (e : ℕ) × IsExecutive (resolved cs) (named_or_number cs) e
   executive m coded name =
       let is : IsCyclicMain (resolved cs) (named_or_number cs) m = record { coded = coded; is_named = named m (body_of (resolved cs) m) coded ∙ name } in
       let least = first is_main m (passes m is) in

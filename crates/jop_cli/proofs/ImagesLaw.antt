@@ -19,7 +19,7 @@ use Rattle.commands.specs.declared.outcome.Ending.TheVariants as endings
 use Rattle.jop_cli.specs.declared.task.Task.{Task}
 use Rattle.commands.specs.Phase.{is_linked}
 use Rattle.commands.specs.World.{IsQuiet}
-use Rattle.commands.specs.Linking.{Refuses, HasName}
+use Rattle.commands.specs.Linking.{RefusesFiles, HasName}
 use Rattle.commands.specs.BareFile.{ImageFault}
 use Rattle.commands.specs.LinkedFile.{BytesFault}
 use Rattle.jop_cli.specs.Calls.{Call, LacksMemory}
@@ -94,17 +94,17 @@ answers_refused c image refusal ending w (names name has is quiet) =
 answers_refused c image refusal ending w (unnamed is quiet) = inr (lacks c ending w is quiet)
 
 -- files that are linked to classes aren't refused
-not_refused : LinkedFilesAreNotRefused → (image : LinkedContent) (place : ℕ) (kept other : Option ℕ) (refusal : LinkRefusal) → DiffersFirst image place kept other → Refuses image.files image.main refusal → ⊥
+not_refused : LinkedFilesAreNotRefused → (image : LinkedContent) (place : ℕ) (kept other : Option ℕ) (refusal : LinkRefusal) → DiffersFirst image place kept other → RefusesFiles image.files image.main refusal → ⊥
 not_refused law image place kept other refusal differs is =
     let r = refuses image.files image.main refusal is in
     r.1 (law image.files image.main differs.classes refusal differs.are r.0)
 
 module _ (one_image : OneImage) (images : LinkedImagesAreRead) (not_refused_law : LinkedFilesAreNotRefused) (one_refusal : RefusalsAreOne) (c : Call) (task : Task) (bytes : List ℕ) (operands : List (List ℕ)) (image : LinkedContent) (is_file : file.IsLinkedFile bytes image) where
-  module _ (refusal : LinkRefusal) (is : Refuses image.files image.main refusal) where
-    same_refused : (other : LinkedContent) (r : LinkRefusal) (name : Vec ℕ Global) → file.IsLinkedFile bytes other → Refuses other.files other.main r → HasName other.files r name.items → IsQuiet c.old c.new → EndsRefused c image refusal (endings.NotLinked r name)
+  module _ (refusal : LinkRefusal) (is : RefusesFiles image.files image.main refusal) where
+    same_refused : (other : LinkedContent) (r : LinkRefusal) (name : Vec ℕ Global) → file.IsLinkedFile bytes other → RefusesFiles other.files other.main r → HasName other.files r name.items → IsQuiet c.old c.new → EndsRefused c image refusal (endings.NotLinked r name)
     same_refused other r name of refused has quiet =
         let same : other ≡ image = one_image bytes other image of is_file in
-        let refused_here = subst (λ (i : LinkedContent). Refuses i.files i.main r) same refused in
+        let refused_here = subst (λ (i : LinkedContent). RefusesFiles i.files i.main r) same refused in
         let has_here = subst (λ (i : LinkedContent). HasName i.files r name.items) same has in
         let a = refuses image.files image.main r refused_here in
         let b = refuses image.files image.main refusal is in
@@ -145,7 +145,7 @@ module _ (one_image : OneImage) (images : LinkedImagesAreRead) (not_refused_law 
         inl (same_words at k o (subst (λ (i : LinkedContent). DiffersFirst i at k o) same fault.2))
     bytes_differ (endings.NotLinked r name) fault =
         let same : fault.0 ≡ image = one_image bytes fault.0 image fault.1 is_file in
-        absurd (not_refused not_refused_law image place kept other r differs (subst (λ (i : LinkedContent). Refuses i.files i.main r) same fault.2))
+        absurd (not_refused not_refused_law image place kept other r differs (subst (λ (i : LinkedContent). RefusesFiles i.files i.main r) same fault.2))
     bytes_differ endings.NoMemory fault = inr refl
     bytes_differ ending fault = absurd fault
 

@@ -4,12 +4,12 @@ use Rattle.std.specs.Prelude.{Vec}
 use Rattle.std.specs.declared.alloc.Global.{Global}
 use Rattle.std.specs.List.{concat}
 use Rattle.outside.specs.Outside.{Grew}
-use Rattle.program_tables.specs.Resolved.{resolved}
+use Rattle.program_tables.specs.Resolved.{resolved, method_name}
 use Rattle.activations.specs.Warrant.{BoundsActivations}
 use Rattle.command_line.specs.declared.command.Settings.{Settings}
 use Rattle.command_line.specs.declared.command.Command.TheVariants.{Check, Bound}
 use Rattle.answer_lines.specs.AnalysisLines.{held_parts}
-use Rattle.analysis_commands.specs.Analysis.{timing_of, bounds_of, name_of}
+use Rattle.analysis_commands.specs.Analysis.{timing_of, bounds_of}
 use Rattle.commands.specs.declared.outcome.Answer.{Answer}
 use Rattle.commands.specs.declared.outcome.Answer.TheVariants.{Text, Ends}
 use Rattle.commands.specs.declared.outcome.Ending.{Ending}
@@ -34,7 +34,7 @@ module _ (c : Call) (s : Settings) (image : ℕ) (w : IsWholly c c.answered.endi
   shows_held r e same a h =
       let k = h.shows.meets in
       let cs = a.linked.classes in
-      let says : line_of c.words c.answered.ending ≡ concat (held_parts (name_of cs k.certificate.root) k.certificate.bound) =
+      let says : line_of c.words c.answered.ending ≡ concat (held_parts (method_name cs k.certificate.root) k.certificate.bound) =
       ap (line_of c.words) (same ∙ h.says) ∙ ap₂ (λ (n : List ℕ) (b : Option ℕ). concat (held_parts n b)) k.name k.bound in
       let of_root = subst (λ (m : ℕ). BoundsActivations (resolved cs) (timing_of s) (bounds_of cs k.bounds) m h.held.bound) k.root h.shows.holds in
       record {

@@ -11,12 +11,12 @@ use Rattle.commands.specs.declared.outcome.Ending.{Ending}
 use Rattle.commands.specs.declared.outcome.Ending.TheVariants as endings
 use Rattle.commands.specs.Line.{text_of_word}
 use Rattle.commands.specs.World.{IsUntaken}
-use Rattle.commands.specs.Linking.{class_name, Refuses, HasName, AreLinkedTo, PutsLinked, LinksRead, LinksFiles}
-use Rattle.jop_cli.specs.Calls.{Call, NothingFailed, LacksMemory, AreTold}
+use Rattle.commands.specs.Linking.{class_name, RefusesFiles, HasName, AreLinkedTo, PutsLinked, LinksRead, LinksFiles}
+use Rattle.jop_cli.specs.Calls.{Call, NothingFailed, LacksMemory, OperandsAreTold}
 use Rattle.jop_cli.specs.Correct.{IsLinkedBy, LinkingIsComplete, AnswersEnding, AnswersRefusal, LinkRefusalsAreAnswered, LinkRefusalsAreOne}
 use Rattle.jop_cli.proofs.Wholly.{IsWholly, wholly, executed, lacks, same_files, files_read}
 
-module _ (c : Call) (files : List (List ℕ)) (main : List ℕ) (n : NothingFailed c) (none : (refusal : LinkRefusal) → ¬ Refuses files main refusal) where
+module _ (c : Call) (files : List (List ℕ)) (main : List ℕ) (n : NothingFailed c) (none : (refusal : LinkRefusal) → ¬ RefusesFiles files main refusal) where
   puts : (ending : Ending) → IsWholly c ending → IsUntaken c.old c.new → c.new.watch ≡ c.old.watch → PutsLinked files main c.old.out c.new.out c.old.out_faults c.new.out_faults ending → IsLinkedBy c files main ⊎ LacksMemory c
   puts (endings.Linked sizes) w untaken watch h = inl (record { outcome = w.outcome; bytes = h.bytes; sizes = sizes; linked = h.linked; puts = record { out = h.put; err = w.line } })
   puts endings.WriteFault w untaken watch h = absurd (n.out h.rose)
@@ -24,7 +24,7 @@ module _ (c : Call) (files : List (List ℕ)) (main : List ℕ) (n : NothingFail
   puts (endings.NotLinked refusal name) w untaken watch h = absurd (none refusal h.0.0)
   puts ending w untaken watch h = absurd h.0
 
-linked_read : (c : Call) (word : List ℕ) (first : ℕ) (files : List (List ℕ)) → AreTold c first files → NothingFailed c → ((refusal : LinkRefusal) → ¬ Refuses files (class_name word) refusal) → (ending : Ending) → IsWholly c ending
+linked_read : (c : Call) (word : List ℕ) (first : ℕ) (files : List (List ℕ)) → OperandsAreTold c first files → NothingFailed c → ((refusal : LinkRefusal) → ¬ RefusesFiles files (class_name word) refusal) → (ending : Ending) → IsWholly c ending
     → LinksRead word first c.old c.new ending → IsLinkedBy c files (class_name word) ⊎ LacksMemory c
 linked_read c word first files told n none ending w h =
     let same : h.files ≡ files = same_files c first files h.files told h.reads.are in
@@ -42,14 +42,14 @@ linking_is_complete c main first files command told n none =
 -- ---- what is refused
 
 -- memory apart
-pub refuses : (files : List (List ℕ)) (main : List ℕ) (r : LinkRefusal) → Refuses files main r → IsLinkRefusal files main r × (r ≢ links.NoMemory)
+pub refuses : (files : List (List ℕ)) (main : List ℕ) (r : LinkRefusal) → RefusesFiles files main r → IsLinkRefusal files main r × (r ≢ links.NoMemory)
 refuses files main (links.Resolving r) h = (h, λ e. absurd (cc))
 refuses files main (links.NotVerified file method pc rule) h = (h, λ e. absurd (cc))
 refuses files main (links.TooLarge what count limit) h = (h, λ e. absurd (cc))
 refuses files main (links.FileTooLarge count limit) h = (h, λ e. absurd (cc))
 refuses files main links.NoMemory h = absurd h
 
-module _ (not_refused : LinkedFilesAreNotRefused) (one : RefusalsAreOne) (files : List (List ℕ)) (main : List ℕ) (refusal : LinkRefusal) (is : Refuses files main refusal) where
+module _ (not_refused : LinkedFilesAreNotRefused) (one : RefusalsAreOne) (files : List (List ℕ)) (main : List ℕ) (refusal : LinkRefusal) (is : RefusesFiles files main refusal) where
   not_linked : (bytes : List ℕ) (sizes : Sizes) → AreLinkedTo files main bytes sizes → ⊥
   not_linked bytes sizes h =
       let l = h.linked in
@@ -58,7 +58,7 @@ module _ (not_refused : LinkedFilesAreNotRefused) (one : RefusalsAreOne) (files 
       let r = refuses files main refusal is in
       r.1 (not_refused files main l.classes refusal linked r.0)
 
-  same_refusal : (other : LinkRefusal) → Refuses files main other → other ≡ refusal
+  same_refusal : (other : LinkRefusal) → RefusesFiles files main other → other ≡ refusal
   same_refusal other h =
       let r = refuses files main refusal is in
       let o = refuses files main other h in
@@ -79,7 +79,7 @@ module _ (not_refused : LinkedFilesAreNotRefused) (one : RefusalsAreOne) (files 
         })
     answers ending w untaken watch h = absurd h.0
 
-    refused_read : (word : List ℕ) (first : ℕ) → class_name word ≡ main → AreTold c first files → (ending : Ending) → IsWholly c ending → LinksRead word first c.old c.new ending → AnswersRefusal c files refusal ⊎ LacksMemory c
+    refused_read : (word : List ℕ) (first : ℕ) → class_name word ≡ main → OperandsAreTold c first files → (ending : Ending) → IsWholly c ending → LinksRead word first c.old c.new ending → AnswersRefusal c files refusal ⊎ LacksMemory c
     refused_read word first named told ending w h =
         let same : h.files ≡ files = same_files c first files h.files told h.reads.are in
         let put = subst (λ (fs : List (List ℕ)). PutsLinked fs (class_name word) c.old.out c.new.out c.old.out_faults c.new.out_faults ending) same h.put in

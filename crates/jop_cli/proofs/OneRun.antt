@@ -86,10 +86,10 @@ same_place test c d first second =
     (cases_lt c d)
 
 same_stage : (a b : Stage) → a.machine ≡ b.machine → a.state ≡ b.state → a ≡ b
-same_stage a b m s = ap₂ (λ (x : machine.State) (y : State). let z : Stage = record { machine = x; state = y } in z) m s
+same_stage a b m s = ap₂ (λ (x : machine.MachineState) (y : State). let z : Stage = record { machine = x; state = y } in z) m s
 
 module _ (g : Setting) (m : Stage) where
-  abbrev after : List (Option ℕ) → ℕ → machine.State
+  abbrev after : List (Option ℕ) → ℕ → machine.MachineState
   after answers k = (run k (begun m.machine answers)).state
 
   lands : (b : Stage) (f : Follows g m b) → after f.comes.answers f.comes.cycles ≡ b.machine
@@ -185,7 +185,7 @@ module _ (g : Setting) (limit : ℕ) (a : Stage) (input : ℕ → Option ℕ) wh
 
 module _ (n : ℕ) (words : List ℕ) (config : Config) where
   -- the machine with other settings
-  abbrev at : (memory read write blocks block_words : ℕ) → machine.State
+  abbrev at : (memory read write blocks block_words : ℕ) → machine.MachineState
   at memory read write blocks block_words =
       let start = linked_start words in
       record (linked_reset n words config) {
@@ -205,13 +205,13 @@ module _ (n : ℕ) (words : List ℕ) (config : Config) where
 
 -- ---- of what is linked
 
-over_by : (c : Call) (cs : List ClassFile) (limit : ℕ) (now : machine.State) (mode : Mode) → AnswersMode c cs limit now mode → IsGoing mode → now.clock < limit → ⊥
+over_by : (c : Call) (cs : List ClassFile) (limit : ℕ) (now : machine.MachineState) (mode : Mode) → AnswersMode c cs limit now mode → IsGoing mode → now.clock < limit → ⊥
 over_by c cs limit now modes.Running says going below = let late = says.late in omega (arith, late, below)
 over_by c cs limit now (modes.Raising p) says going below = let late = says.late in omega (arith, late, below)
 over_by c cs limit now modes.Ended says going below = going
 over_by c cs limit now (modes.Uncaught class) says going below = going
 
-one_outcome : (c d : Call) (cs : List ClassFile) (limit : ℕ) (m n : machine.State) (mode : Mode) → AnswersMode c cs limit m mode → AnswersMode d cs limit n mode → c.outcome ≡ d.outcome
+one_outcome : (c d : Call) (cs : List ClassFile) (limit : ℕ) (m n : machine.MachineState) (mode : Mode) → AnswersMode c cs limit m mode → AnswersMode d cs limit n mode → c.outcome ≡ d.outcome
 one_outcome c d cs limit m n modes.Running a b = a.outcome ∙ sym b.outcome
 one_outcome c d cs limit m n (modes.Raising p) a b = a.outcome ∙ sym b.outcome
 one_outcome c d cs limit m n modes.Ended a b = a.outcome ∙ sym b.outcome

@@ -26,7 +26,7 @@ use Rattle.commands.specs.declared.show.Show.TheVariants as shows
 use Rattle.commands.specs.Show.{bare_shown, linked_shown}
 use Rattle.commands.specs.Phase.{is_linked}
 use Rattle.commands.specs.World.{IsUntaken}
-use Rattle.commands.specs.Linking.{Refuses}
+use Rattle.commands.specs.Linking.{RefusesFiles}
 use Rattle.run_devices.specs.Lent.{Lent}
 use Rattle.commands.specs.Run.{HasRisen}
 use Rattle.commands.specs.LinkedSettings.{CodesFit}
@@ -50,7 +50,7 @@ begins_linked bytes image is = ap is_linked is.spelling
 pub begins_bare : (bytes : List ℕ) (image : BareContent) → IsBareFile bytes image → is_linked bytes ≡ false
 begins_bare bytes image is = ap is_linked is.spelling
 
-pub wrong_in : (image : file.LinkedContent) (refusal : LinkRefusal) → Refuses image.files image.main refusal → IsWrongIn image (faults.Link refusal)
+pub wrong_in : (image : file.LinkedContent) (refusal : LinkRefusal) → RefusesFiles image.files image.main refusal → IsWrongIn image (faults.Link refusal)
 wrong_in image (links.Resolving refusal) h = h
 wrong_in image (links.NotVerified f method pc rule) h = h
 wrong_in image (links.TooLarge what count limit) h = h

@@ -3,7 +3,7 @@ use Rattle.std.proofs.Common.{◌≡◌, ℕ, ◌+◌, ◌<◌, ◌≤◌, Bool,
 use Rattle.std.specs.Prelude.{sum_by, Ok}
 use Rattle.std.proofs.lemmas.List.{ext_get_or, length-take-le, get_or-take}
 use Rattle.std.proofs.lemmas.List.Sums.{sum_by_more_le}
-use Rattle.outside.specs.Outside.{Grew, Rose, IsWhole, HasLength}
+use Rattle.outside.specs.Outside.{Grew, Rose, IsWhole, HasFileLength}
 use Rattle.answer_lines.specs.Said.{SaidLess}
 use Rattle.outside.specs.Files.{AreFiles, IsTooBigAt}
 use Rattle.run_devices.specs.Lent.{Lent}
@@ -17,7 +17,7 @@ use Rattle.commands.specs.Line.{line_of}
 use Rattle.commands.specs.World.{World, IsQuiet, IsUntaken, Reads}
 use Rattle.commands.specs.Linking.{files_of, OperandsFault}
 use Rattle.jop_cli.specs.Answer.{Does, FileFault, outcome_of, lent_of, lent_without_input}
-use Rattle.jop_cli.specs.Calls.{Call, NothingFailed, LacksMemory, IsTold, AreTold}
+use Rattle.jop_cli.specs.Calls.{Call, NothingFailed, LacksMemory, IsTold, OperandsAreTold}
 use Rattle.jop_cli.proofs.Refusing.{unsaid_written, unsaid_holds}
 use Rattle.jop_cli.proofs.Executing.{does_by}
 
@@ -86,8 +86,8 @@ quiet_without old new untaken e = record {
 pub whole_told : (told : Option (List ℕ)) (bytes read : List ℕ) → told ≡ Some bytes → IsWhole told read → read ≡ bytes
 whole_told told bytes read is whole = subst (λ (o : Option (List ℕ)). IsWhole o read) is whole
 
-pub length_told : (told : Option (List ℕ)) (bytes : List ℕ) (n : ℕ) → told ≡ Some bytes → HasLength told n → n ≡ length bytes
-length_told told bytes n is has = subst (λ (o : Option (List ℕ)). HasLength o n) is has
+pub length_told : (told : Option (List ℕ)) (bytes : List ℕ) (n : ℕ) → told ≡ Some bytes → HasFileLength told n → n ≡ length bytes
+length_told told bytes n is has = subst (λ (o : Option (List ℕ)). HasFileLength o n) is has
 
 pub same_bytes : (c : Call) (word : ℕ) (bytes read : List ℕ) → IsTold c word bytes → Reads word read c.old c.new → read ≡ bytes
 same_bytes c word bytes read told reads = whole_told (c.old.files word) bytes read told.told reads.whole
@@ -102,21 +102,21 @@ file_read c word bytes told n ending h = absurd h
 
 -- ---- several files
 
-same_at : (c : Call) (first : ℕ) (files read : List (List ℕ)) (operand : ℕ) → AreTold c first files → AreFiles c.old.files first operand read → (k : ℕ) → k < length read → k < length files → get_or read k [] ≡ get_or files k []
+same_at : (c : Call) (first : ℕ) (files read : List (List ℕ)) (operand : ℕ) → OperandsAreTold c first files → AreFiles c.old.files first operand read → (k : ℕ) → k < length read → k < length files → get_or read k [] ≡ get_or files k []
 same_at c first files read operand told are k within there = whole_told (c.old.files (first + k)) (get_or files k []) (get_or read k []) (told.told k there) (are.whole k within)
 
-pub same_files : (c : Call) (first : ℕ) (files read : List (List ℕ)) → AreTold c first files → AreFiles c.old.files first c.old.words read → read ≡ files
+pub same_files : (c : Call) (first : ℕ) (files read : List (List ℕ)) → OperandsAreTold c first files → AreFiles c.old.files first c.old.words read → read ≡ files
 same_files c first files read told are =
     let same : length read ≡ length files = omega (arith, told.many, are.many) in
     ext_get_or [] read files same (λ k within. same_at c first files read c.old.words told are k within (omega (arith, same, within)))
 
-front : (c : Call) (first : ℕ) (files read : List (List ℕ)) (operand : ℕ) → AreTold c first files → AreFiles c.old.files first operand read → length read < length files → read ≡ take (length read) files
+front : (c : Call) (first : ℕ) (files read : List (List ℕ)) (operand : ℕ) → OperandsAreTold c first files → AreFiles c.old.files first operand read → length read < length files → read ≡ take (length read) files
 front c first files read operand told are short =
     let len : length (take (length read) files) ≡ length read = length-take-le (length read) files (omega (arith, short)) in
     ext_get_or [] read (take (length read) files) (sym len) (λ k within.
     same_at c first files read operand told are k within (omega (arith, short, within)) ∙ sym (get_or-take (length read) files k [] within))
 
-fits : (c : Call) (first : ℕ) (files : List (List ℕ)) (operand sum : ℕ) → AreTold c first files → IsTooBigAt (files_of c.old) first c.old.words operand sum → ⊥
+fits : (c : Call) (first : ℕ) (files : List (List ℕ)) (operand sum : ℕ) → OperandsAreTold c first files → IsTooBigAt (files_of c.old) first c.old.words operand sum → ⊥
 fits c first files operand sum told big =
     let n : ℕ = length big.before in
     let short : n < length files = omega (arith, told.many, big.read.many, big.below) in
@@ -126,7 +126,7 @@ fits c first files operand sum told big =
     let most : sum_by length (take n files) + length (get_or files n []) ≤ sum_by length files = sum_by_more_le length files n [] short in
     omega (arith, told.few, big.sum_is, big.past, long, sums, most)
 
-pub files_read : (c : Call) (first : ℕ) (files : List (List ℕ)) → AreTold c first files → NothingFailed c → (ending : Ending) → OperandsFault first c.old.words (files_of c.old) (files_of c.new) ending → ending ≡ endings.NoMemory
+pub files_read : (c : Call) (first : ℕ) (files : List (List ℕ)) → OperandsAreTold c first files → NothingFailed c → (ending : Ending) → OperandsFault first c.old.words (files_of c.old) (files_of c.new) ending → ending ≡ endings.NoMemory
 files_read c first files told n (endings.Refused (refusals.TooBig operand sum)) h = absurd (fits c first files operand sum told h.0)
 files_read c first files told n endings.ReadFault h =
     let fails = h.1 in

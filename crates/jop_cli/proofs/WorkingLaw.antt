@@ -7,7 +7,7 @@ use Rattle.commands.specs.declared.outcome.Ending.TheVariants as endings
 use Rattle.commands.specs.declared.outcome.Outcome.TheVariants as outcomes
 use Rattle.commands.specs.Line.{line_of}
 use Rattle.commands.specs.World.{IsQuiet}
-use Rattle.commands.specs.Working.{PutsLine, NotWorked, OnlyOut}
+use Rattle.commands.specs.Working.{PutsWholeLine, NotWorked, OnlyOut}
 use Rattle.jop_cli.specs.Answer.{outcome_of}
 use Rattle.jop_cli.specs.Calls.{Call}
 use Rattle.jop_cli.specs.Correct.{IsWorkedBy, Hinders, puts, says, lacks, WorkingIsComplete, WorkLinesAreTrue}
@@ -26,7 +26,7 @@ not_written n ending h e = absurd (cc)
 quiet : (c : Call) → c.new.out ≡ c.old.out → c.new.out_faults ≡ c.old.out_faults → OnlyOut c.old c.new → IsQuiet c.old c.new
 quiet c out faults rest = record { input = rest.input; out = out; out_faults = faults; watch = rest.watch }
 
-written : (c : Call) (n : ℕ) (ending : Ending) → IsWholly c ending → ending ≡ endings.Written → PutsLine n c.old.out c.new.out c.old.out_faults c.new.out_faults → IsWorkedBy c n
+written : (c : Call) (n : ℕ) (ending : Ending) → IsWholly c ending → ending ≡ endings.Written → PutsWholeLine n c.old.out c.new.out c.old.out_faults c.new.out_faults → IsWorkedBy c n
 written c n ending w is did =
     let L : Ending → Type 0 = λ e. Grew c.err_old c.err_new (line_of c.words e) in
     record { outcome = w.outcome ∙ ap outcome_of is; line = did.line; is = did.is; puts = record { out = did.put; err = subst L is w.line } }

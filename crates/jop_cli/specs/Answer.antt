@@ -172,7 +172,7 @@ abbrev pub RunsProgram : (words : List (List ℕ)) → Type 0
 RunsProgram words = (settings : Settings) × (image : ℕ) × (command_of words ≡ Ok (Run settings image))
 
 -- what err was given of an ending, and the outcome: the whole line, or less where err failed
-pub record Said (words : List (List ℕ)) (ending : Ending) (old new : Option (List ℕ)) (before now : ℕ) (outcome : Outcome) : Type 0 where
+pub record SaidEnding (words : List (List ℕ)) (ending : Ending) (old new : Option (List ℕ)) (before now : ℕ) (outcome : Outcome) : Type 0 where
   pub later : before ≤ now
   pub said : (Grew old new (line_of words ending) × (outcome ≡ outcome_of ending))
       ⊎ (SaidLess (is_fault ending) (line_of words ending) old new before now × (outcome ≡ outcome_unsaid ending))
@@ -181,4 +181,4 @@ pub record Said (words : List (List ℕ)) (ending : Ending) (old new : Option (L
 pub record Answered (words : List (List ℕ)) (old new : World) (err err' : Option (List ℕ)) (faults faults' : ℕ) (outcome : Outcome) : Type 0 where
   pub ending : Ending
   pub executed : Executed words old new ending
-  pub said : Said words ending err err' faults faults' outcome
+  pub said : SaidEnding words ending err err' faults faults' outcome

@@ -33,7 +33,7 @@ pub record LacksMemory (c : Call) : Type 0 where
   pub quiet : IsQuiet c.old c.new
 
 -- these bytes were put out, and err was given this line
-pub record Puts (c : Call) (bytes line : List ℕ) : Type 0 where
+pub record PutsOut (c : Call) (bytes line : List ℕ) : Type 0 where
   pub out : Grew c.old.out c.new.out bytes
   pub err : Grew c.err_old c.err_new line
 
@@ -43,7 +43,7 @@ pub record IsTold (c : Call) (word : ℕ) (bytes : List ℕ) : Type 0 where
   pub short : length bytes ≤ most_bytes
 
 -- the files of the words from one on are told to have these bytes, not too many together
-pub record AreTold (c : Call) (first : ℕ) (files : List (List ℕ)) : Type 0 where
+pub record OperandsAreTold (c : Call) (first : ℕ) (files : List (List ℕ)) : Type 0 where
   pub many : first + length files ≡ c.old.words
   pub told : (k : ℕ) → k < length files → c.old.files (first + k) ≡ Some (slice_index_or files k [])
   pub few : sum_by length files ≤ most_bytes

@@ -61,7 +61,7 @@ use Rattle.slot_table.specs.declared.slot.Slot.{Slot}
 use Rattle.slot_table.specs.Grammar as tables
 use Rattle.commands.specs.declared.outcome.Ending.{Ending}
 use Rattle.commands.specs.declared.outcome.Ending.TheVariants as endings
-use Rattle.program_tables.specs.Resolved.{resolved}
+use Rattle.program_tables.specs.Resolved.{resolved, method_name}
 use Rattle.program_tables.specs.Resolving.{IsResolved}
 use Rattle.loop_rules.specs.declared.found.FoundLoop.{FoundLoop}
 use Rattle.loop_rules.specs.Sites.{int_at}
@@ -69,7 +69,7 @@ use Rattle.int_sites.specs.Constants.{AreConstants}
 use Rattle.counted_activations.specs.Others.{CountsIn, KeepsOthers}
 use Rattle.analysis_commands.specs.Loops.{AreLoopLines}
 use Rattle.source_headers.specs.Files.{IsHeaderFile}
-use Rattle.source_headers.specs.Laws.{line_bound, place_bound, HasNumbers}
+use Rattle.source_headers.specs.Laws.{line_bound, place_bound, HasLoopNumbers}
 use Rattle.source_headers.specs.Whole.{BoundsWritten}
 use Rattle.ascii_text.specs.Line.{lines_of as text_lines}
 use Rattle.loop_bounds.specs.Bounds.{LoopBound}
@@ -87,7 +87,7 @@ use Rattle.bound_causes.specs.Shapes.{IsShape}
 use Rattle.bound_causes.specs.declared.shapes.Shape.{Shape}
 use Rattle.answer_lines.specs.declared.bound.BoundCause.{BoundCause}
 use Rattle.answer_lines.specs.AnalysisLines.{held_parts, fault_parts, cause_parts}
-use Rattle.analysis_commands.specs.Analysis.{timing_of, bounds_of, name_of, named_or_number}
+use Rattle.analysis_commands.specs.Analysis.{timing_of, bounds_of, named_or_number}
 use Rattle.analysis_commands.specs.Checking.{fault_name}
 use Rattle.analysis_commands.specs.Memory.{IsNeed}
 use Rattle.analysis_commands.specs.Plan.{IsPlan, IsExecutive}
@@ -103,14 +103,14 @@ use Rattle.commands.specs.declared.show.Show.{Show}
 use Rattle.commands.specs.declared.show.Show.TheVariants as shows
 use Rattle.commands.specs.LinkedRun.{linked_setting}
 use Rattle.commands.specs.Line.{text_of_word, line_of}
-use Rattle.commands.specs.Linking.{class_name, Refuses, HasName, AreLinkedTo}
+use Rattle.commands.specs.Linking.{class_name, RefusesFiles, HasName, AreLinkedTo}
 use Rattle.commands.specs.Assembling.{IsNoProgram}
 use Rattle.commands.specs.LinkedSettings.{CodesFit}
 use Rattle.commands.specs.BareFile.{blocks_of_code}
 use Rattle.outside.specs.Outside.{Grew}
 use Rattle.outside.specs.Files.{AreFiles}
 use Rattle.commands.specs.World.{IsQuiet}
-use Rattle.jop_cli.specs.Calls.{Call, NothingFailed, LacksMemory, Puts, IsTold, AreTold}
+use Rattle.jop_cli.specs.Calls.{Call, NothingFailed, LacksMemory, PutsOut, IsTold, OperandsAreTold}
 use Rattle.commands.specs.Working.{IsWorkLine, NotWorked}
 use Rattle.jop_cli.specs.Courses.{RanLinked, RanBare}
 use Rattle.commands.specs.Following.{run_stages}
@@ -132,13 +132,13 @@ pub record IsLinkedBy (c : Call) (files : List (List ℕ)) (main : List ℕ) : T
   pub bytes : List ℕ
   pub sizes : Sizes
   pub linked : AreLinkedTo files main bytes sizes
-  pub puts : Puts c bytes (line_of c.words (endings.Linked sizes))
+  pub puts : PutsOut c bytes (line_of c.words (endings.Linked sizes))
 
 -- Class files that nothing refuses are linked, and the file of their image is put; or there is no memory.
 abbrev pub LinkingIsComplete : Type 0
 LinkingIsComplete =
-    (c : Call) (main first : ℕ) (files : List (List ℕ)) → command_of c.words ≡ Ok (LinkTo main first) → AreTold c first files → NothingFailed c
-    → ((refusal : LinkRefusal) → ¬ Refuses files (class_name (text_of_word c.words main)) refusal)
+    (c : Call) (main first : ℕ) (files : List (List ℕ)) → command_of c.words ≡ Ok (LinkTo main first) → OperandsAreTold c first files → NothingFailed c
+    → ((refusal : LinkRefusal) → ¬ RefusesFiles files (class_name (text_of_word c.words main)) refusal)
     → IsLinkedBy c files (class_name (text_of_word c.words main)) ⊎ LacksMemory c
 
 -- This ending was answered: its line was said, and nothing else was done.
@@ -156,15 +156,15 @@ pub record AnswersRefusal (c : Call) (files : List (List ℕ)) (refusal : LinkRe
 -- What refuses class files is answered; or there is no memory.
 abbrev pub LinkRefusalsAreAnswered : Type 0
 LinkRefusalsAreAnswered =
-    (c : Call) (main first : ℕ) (files : List (List ℕ)) (refusal : LinkRefusal) → command_of c.words ≡ Ok (LinkTo main first) → AreTold c first files
-    → NothingFailed c → Refuses files (class_name (text_of_word c.words main)) refusal
+    (c : Call) (main first : ℕ) (files : List (List ℕ)) (refusal : LinkRefusal) → command_of c.words ≡ Ok (LinkTo main first) → OperandsAreTold c first files
+    → NothingFailed c → RefusesFiles files (class_name (text_of_word c.words main)) refusal
     → AnswersRefusal c files refusal ⊎ LacksMemory c
 
 -- For it is one refusal, and what is refused isn't linked.
 abbrev pub LinkRefusalsAreOne : Type 0
 LinkRefusalsAreOne =
-    (files : List (List ℕ)) (main : List ℕ) (refusal : LinkRefusal) → Refuses files main refusal
-    → ((bytes : List ℕ) (sizes : Sizes) → ¬ AreLinkedTo files main bytes sizes) × ((other : LinkRefusal) → Refuses files main other → other ≡ refusal)
+    (files : List (List ℕ)) (main : List ℕ) (refusal : LinkRefusal) → RefusesFiles files main refusal
+    → ((bytes : List ℕ) (sizes : Sizes) → ¬ AreLinkedTo files main bytes sizes) × ((other : LinkRefusal) → RefusesFiles files main other → other ≡ refusal)
 
 -- ---- `run` and `trace`
 
@@ -230,7 +230,7 @@ OneBareImage = (bytes : List ℕ) (a b : BareContent) → IsBareFile bytes a →
 -- The listing was put, and no line.
 pub record IsListed (c : Call) (listing : List ℕ) : Type 0 where
   pub outcome : c.outcome ≡ Written
-  pub puts : Puts c listing []
+  pub puts : PutsOut c listing []
 
 -- The listing of the words that a text is assembled to is put; or there is no memory.
 abbrev pub AssemblingIsComplete : Type 0
@@ -260,7 +260,7 @@ pub record ChecksTexts (c : Call) (settings : Settings) (image : ℕ) (l : Parts
   pub bytes : List ℕ
   pub bounds_text : List ℕ
   pub cert_text : List ℕ
-  pub told : AreTold c image (bytes ∷ bounds_text ∷ cert_text ∷ [])
+  pub told : OperandsAreTold c image (bytes ∷ bounds_text ∷ cert_text ∷ [])
   pub is_linked : IsLinked l
   pub is_file : file.IsLinkedFile bytes (image_of l)
   pub codes : CodesFit settings l
@@ -279,7 +279,7 @@ CheckingIsComplete =
     (c : Call) (settings : Settings) (image : ℕ) (l : Parts) (lines : List LoopBound) (certificate : Certificate)
     → ChecksTexts c settings image l lines certificate → NothingFailed c
     → MeetsConditions (resolved l.classes) (timing_of settings) (bounds_of l.classes lines) certificate
-    → AnswersLine c Holds (held_parts (name_of l.classes certificate.root) certificate.bound) ⊎ LacksMemory c
+    → AnswersLine c Holds (held_parts (method_name l.classes certificate.root) certificate.bound) ⊎ LacksMemory c
 
 -- What a call shows that answers that a certificate holds: these are the bytes of its files, of the image of what is linked, of bounds and of the
 -- certificate; it meets the conditions, and the line says its method and its bound. There is a machine of each size for the program. Each ended
@@ -299,7 +299,7 @@ pub record ShowsHeld (c : Call) (settings : Settings) (image : ℕ) : Type 0 whe
   pub certificate : Certificate
   pub text : AreLinesOf (text_lines (text_of_word files 2)) certificate
   pub meets : MeetsConditions (resolved linked.classes) (timing_of settings) (bounds_of linked.classes lines) certificate
-  pub says : Grew c.err_old c.err_new (concat (held_parts (name_of linked.classes certificate.root) certificate.bound))
+  pub says : Grew c.err_old c.err_new (concat (held_parts (method_name linked.classes certificate.root) certificate.bound))
   pub kept : BoundsActivations (resolved linked.classes) (timing_of settings) (bounds_of linked.classes lines) certificate.root certificate.bound
 
 abbrev pub CheckedBoundsAreKept : Type 0
@@ -325,7 +325,7 @@ pub record BoundsTexts (c : Call) (settings : Settings) (image : ℕ) (l : Parts
   pub named : text_of_word c.words method ≡ name
   pub bytes : List ℕ
   pub bounds_text : List ℕ
-  pub told : AreTold c image (bytes ∷ bounds_text ∷ [])
+  pub told : OperandsAreTold c image (bytes ∷ bounds_text ∷ [])
   pub is_linked : IsLinked l
   pub is_file : file.IsLinkedFile bytes (image_of l)
   pub codes : CodesFit settings l
@@ -337,7 +337,7 @@ pub record IsBounded (c : Call) (settings : Settings) (l : Parts) (lines : List 
   pub certificate : Certificate
   pub is : IsBoundBy (resolved l.classes) (timing_of settings) (bounds_of l.classes lines) (MethodHasName l.classes name) certificate
   pub grammar : IsInGrammar certificate
-  pub puts : Puts c (text_of certificate) []
+  pub puts : PutsOut c (text_of certificate) []
 
 -- this forbids a bound of the method
 abbrev pub Forbids : Settings → Parts → List LoopBound → (name : List ℕ) → BoundRefusal → Type 0
@@ -406,7 +406,7 @@ BoundsAreKept = CheckedBoundsAreKept × WrittenBoundsAreKept
 abbrev pub NamesTellMethods : Type 0
 NamesTellMethods =
     (cs : List ClassFile) → IsResolved cs → (m n : ℕ) → IsSome (body_of (resolved cs) m) → IsSome (body_of (resolved cs) n)
-    → name_of cs m ≡ name_of cs n → m ≡ n
+    → method_name cs m ≡ method_name cs n → m ≡ n
 
 -- ---- the bounds in the runs
 
@@ -458,7 +458,7 @@ pub record ProfilesTexts (c : Call) (settings : Settings) (image : ℕ) (l : Par
   pub bounds : ℕ
   pub command : command_of c.words ≡ Ok (ToProfile settings image bounds)
   pub bytes : List ℕ
-  pub told : AreTold c image (bytes ∷ bounds_text ∷ [])
+  pub told : OperandsAreTold c image (bytes ∷ bounds_text ∷ [])
   pub is_linked : IsLinked l
   pub is_file : file.IsLinkedFile bytes (image_of l)
   pub codes : CodesFit settings l
@@ -473,7 +473,7 @@ pub record IsProfiled (c : Call) (settings : Settings) (l : Parts) (bounds_text 
   pub ran : RanProfile settings l bounds_text (unwatched c.old) (unwatched c.new) ending
   pub ends : EndsRun ending
   pub outcome : c.outcome ≡ outcome_of ending
-  pub puts : Puts c (profile_lines (named_or_number l.classes) 0 ran.rows ran.answers) (line_of c.words ending)
+  pub puts : PutsOut c (profile_lines (named_or_number l.classes) 0 ran.rows ran.answers) (line_of c.words ending)
 
 -- So it is where nothing fails; or there is no memory.
 abbrev pub ProfilesAreComplete : Type 0
@@ -512,9 +512,9 @@ ReportsAddUp =
 -- the slots, which nothing refuses.
 pub record AreReadied (c : Call) (table rounds : ℕ) (slots : List Slot) (texts files : List (List ℕ)) : Type 0 where
   pub table_text : List ℕ
-  pub told : AreTold c table (table_text ∷ (texts ++ files))
+  pub told : OperandsAreTold c table (table_text ∷ (texts ++ files))
   pub read : tables.IsTableRead table_text slots
-  pub none : (refusal : LinkRefusal) → ¬ Refuses (with_executive slots rounds files) executive_class refusal
+  pub none : (refusal : LinkRefusal) → ¬ RefusesFiles (with_executive slots rounds files) executive_class refusal
 
 -- What is linked with an executive has it: there is a first method with code that has its name.
 abbrev pub ExecutivesAreThere : Type 0
@@ -526,7 +526,7 @@ ExecutivesAreThere =
 -- no memory.
 pub data IsPlanned (c : Call) (settings : Settings) (rounds : ℕ) (slots : List Slot) (bounds_text : List ℕ) (files : List (List ℕ)) : Type 0 where
   puts : (l : Parts) (text : Vec ℕ Global) → IsLinkedWith slots rounds files l → AnswersPlan l.classes settings slots bounds_text (Text text)
-      → c.outcome ≡ Written → Puts c text.items [] → IsPlanned c settings rounds slots bounds_text files
+      → c.outcome ≡ Written → PutsOut c text.items [] → IsPlanned c settings rounds slots bounds_text files
   says : (l : Parts) (ending : Ending) → IsLinkedWith slots rounds files l → AnswersPlan l.classes settings slots bounds_text (Ends ending)
       → c.outcome ≡ outcome_of ending → Grew c.err_old c.err_new (line_of c.words ending) → IsQuiet c.old c.new
       → IsPlanned c settings rounds slots bounds_text files
@@ -635,7 +635,7 @@ HeaderFilesHaveBounds =
     (cs : List ClassFile) (lines text : List ℕ) → IsResolved cs → (h : IsHeaderFile cs lines text) → (bounds : List LoopBound) → IsRead text bounds → (root : ℕ)
     → ((m : ℕ) → IsWithin (resolved cs) root m → IsSome (body_of (resolved cs) m) × (¬ (m ≡ (resolved cs).boot)))
     → (AreReducible (resolved cs) root × HaveLines (resolved cs) (bounds_of cs bounds) root)
-    ↔ ((m : ℕ) → IsWithin (resolved cs) root m → (shape : Shape) → IsShape (resolved cs) m shape → HasNumbers cs h.notes h.found m shape)
+    ↔ ((m : ℕ) → IsWithin (resolved cs) root m → (shape : Shape) → IsShape (resolved cs) m shape → HasLoopNumbers cs h.notes h.found m shape)
 
 -- In the runs of what is linked a bound of a method, by what is taken, asks for what the lines say of sources and of places alone: the loops that are found to
 -- count need no premise.
@@ -650,7 +650,7 @@ NotedLoopsAreKept =
 -- What comes of a question about what is linked: the whole of a text was put that answers it, and no line; or a line was said, and nothing was put,
 -- where an ending answers; or there was no memory.
 pub data IsAnswered (c : Call) (question : Question) (l : Parts) (files : List (List ℕ)) : Type 0 where
-  puts : (text : Vec ℕ Global) → IsAnswer c.words question l files (Text text) → c.outcome ≡ Written → Puts c text.items [] → IsAnswered c question l files
+  puts : (text : Vec ℕ Global) → IsAnswer c.words question l files (Text text) → c.outcome ≡ Written → PutsOut c text.items [] → IsAnswered c question l files
   says : (ending : Ending) → IsAnswer c.words question l files (Ends ending) → c.outcome ≡ outcome_of ending
       → Grew c.err_old c.err_new (line_of c.words ending)
       → IsQuiet c.old c.new → IsAnswered c question l files
@@ -660,7 +660,7 @@ pub data IsAnswered (c : Call) (question : Question) (l : Parts) (files : List (
 abbrev pub QuestionsAreAnswered : Type 0
 QuestionsAreAnswered =
     (c : Call) (command : Command) (asked : Asked) (l : Parts) (files : List (List ℕ)) → command_of c.words ≡ Ok command → task_of command ≡ Ask asked
-    → length files ≡ asked.operands → AreTold c asked.image files → IsLinked l → file.IsLinkedFile (text_of_word files 0) (image_of l) → NothingFailed c
+    → length files ≡ asked.operands → OperandsAreTold c asked.image files → IsLinked l → file.IsLinkedFile (text_of_word files 0) (image_of l) → NothingFailed c
     → IsAnswered c asked.question l files
 
 -- ---- what `memory` promises
@@ -684,7 +684,7 @@ pub record IsWorkedBy (c : Call) (n : ℕ) : Type 0 where
   pub outcome : c.outcome ≡ Written
   pub line : List ℕ
   pub is : IsWorkLine n line
-  pub puts : Puts c line []
+  pub puts : PutsOut c line []
 
 -- this stands in its way
 abbrev pub Hinders : (n : ℕ) → Ending → Type 0

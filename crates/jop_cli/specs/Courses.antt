@@ -38,31 +38,31 @@ use Rattle.jop_cli.specs.Calls.{Call}
 -- ---- what is answered
 
 -- err was given the line of this ending, with the counts of the machine's state
-pub record SaysLine (c : Call) (now : machine.State) (ending : Counts → Ending) : Type 0 where
+pub record SaysLine (c : Call) (now : machine.MachineState) (ending : Counts → Ending) : Type 0 where
   pub counts : Counts
   pub are : AreCounts counts now
   pub line : Grew c.err_old c.err_new (line_of c.words (ending counts))
 
 -- the program has ended
-pub record AnswersEnded (c : Call) (now : machine.State) : Type 0 where
+pub record AnswersEnded (c : Call) (now : machine.MachineState) : Type 0 where
   pub outcome : c.outcome ≡ outcomes.Ended
   pub says : SaysLine c now (λ counts. endings.Ended counts)
 
 -- an object of a class of the program wasn't caught, and the line names the class
-pub record AnswersUncaught (c : Call) (cs : List ClassFile) (class : ℕ) (now : machine.State) : Type 0 where
+pub record AnswersUncaught (c : Call) (cs : List ClassFile) (class : ℕ) (now : machine.MachineState) : Type 0 where
   pub outcome : c.outcome ≡ outcomes.Uncaught class
   pub name : Vec ℕ Global
   pub names : NamesClass cs class name.items
   pub says : SaysLine c now (λ counts. endings.Uncaught class name counts)
 
 -- the program goes on, and the clock has reached the limit
-pub record AnswersSpent (c : Call) (limit : ℕ) (now : machine.State) : Type 0 where
+pub record AnswersSpent (c : Call) (limit : ℕ) (now : machine.MachineState) : Type 0 where
   pub outcome : c.outcome ≡ outcomes.Spent
   pub late : limit ≤ now.clock
   pub says : SaysLine c now (λ counts. endings.Spent counts)
 
 -- what is answered of a program of these classes whose state has this mode
-abbrev pub AnswersMode : (c : Call) → (cs : List ClassFile) → (limit : ℕ) → (now : machine.State) → Mode → Type 0
+abbrev pub AnswersMode : (c : Call) → (cs : List ClassFile) → (limit : ℕ) → (now : machine.MachineState) → Mode → Type 0
 AnswersMode c cs limit now modes.Running = AnswersSpent c limit now
 AnswersMode c cs limit now (modes.Raising p) = AnswersSpent c limit now
 AnswersMode c cs limit now modes.Ended = AnswersEnded c now
@@ -72,7 +72,7 @@ AnswersMode c cs limit now (modes.Uncaught class) = AnswersUncaught c cs class n
 
 -- The image says the program, which is lawful and typed. From the boot state the program's run came to the last state, and from reset the machine, which
 -- stands for each state on the way. Just the output of that state was put out, and just its answers were taken from the input.
-pub record RanProgram (c : Call) (cs : List ClassFile) (g : Setting) (reset : machine.State) (limit : ℕ) (old new : Lent) : Type 0 where
+pub record RanProgram (c : Call) (cs : List ClassFile) (g : Setting) (reset : machine.MachineState) (limit : ℕ) (old new : Lent) : Type 0 where
   pub is_setting : IsSetting g
   pub boot : State
   pub is_boot : boot_state g.program ≡ Some boot
@@ -83,7 +83,7 @@ pub record RanProgram (c : Call) (cs : List ClassFile) (g : Setting) (reset : ma
   pub answers : AnswersMode c cs limit last.machine last.state.mode
 
 -- The same run, of which the lines were put out and not the output. The watch is as it was.
-pub record TracedProgram (c : Call) (cs : List ClassFile) (cycles : Bool) (names : List (List ℕ)) (g : Setting) (reset : machine.State) (limit : ℕ)
+pub record TracedProgram (c : Call) (cs : List ClassFile) (cycles : Bool) (names : List (List ℕ)) (g : Setting) (reset : machine.MachineState) (limit : ℕ)
     (old new : Lent) : Type 0 where
   pub is_setting : IsSetting g
   pub boot : State
@@ -97,7 +97,7 @@ pub record TracedProgram (c : Call) (cs : List ClassFile) (cycles : Bool) (names
   pub watch : new.handed ≡ old.handed
   pub answers : AnswersMode c cs limit last.machine last.state.mode
 
-abbrev pub RanShown : Shown → (c : Call) → (cs : List ClassFile) → (g : Setting) → (reset : machine.State) → (limit : ℕ) → (old new : Lent) → Type 0
+abbrev pub RanShown : Shown → (c : Call) → (cs : List ClassFile) → (g : Setting) → (reset : machine.MachineState) → (limit : ℕ) → (old new : Lent) → Type 0
 RanShown Output c cs g reset limit old new = RanProgram c cs g reset limit old new
 RanShown (Trace cycles names) c cs g reset limit old new = TracedProgram c cs cycles names g reset limit old new
 

@@ -37,7 +37,8 @@ use Rattle.commands.specs.Executive.{EndsUnready, IsReadied}
 -- ---- the run
 
 -- Of the slots of these lengths the numbers are those of the activations that are among all that is seen of the run, and that the executive's calls began.
-pub record Cycles (g : Setting) (reset : machine.State) (limit : ℕ) (old new : Lent) (name : ℕ → List ℕ) (lengths : List ℕ) (numbers : Slots) (f : ProgramEnd)
+pub record Cycles (g : Setting) (reset : machine.MachineState) (limit : ℕ) (old new : Lent) (name : ℕ → List ℕ) (lengths : List ℕ) (numbers : Slots)
+    (f : ProgramEnd)
     : Type 0 where
   pub ran : RanSo g reset limit (wired old) (wired new) f
   pub numbers_are : (executive : ℕ) → IsExecutive g.program name executive

@@ -1,7 +1,7 @@
 -- What a profile is told with: the table of a program, what is answered of its methods' bounds, and totals that have been handed nothing.
 use Rattle.std.specs.Prelude.{◌≡◌, ℕ, List, length, Some, slice_get}
 use Rattle.class_pool.specs.declared.class.ClassFile.{ClassFile}
-use Rattle.program_tables.specs.Resolved.{resolved}
+use Rattle.program_tables.specs.Resolved.{resolved, method_name}
 use Rattle.bytecode_model.specs.Program.{Program}
 use Rattle.method_flow.specs.Flow.{Coded, IsFlowOf}
 use Rattle.node_costs.specs.Costs as table
@@ -12,14 +12,14 @@ use Rattle.method_bounds.specs.Answers.{IsBoundAnswer}
 use Rattle.activation_watch.specs.Counting.{no_totals}
 use Rattle.command_line.specs.declared.command.Settings.{Settings}
 use Rattle.analysis_commands.specs.declared.analysis.AnalysisFault.{AnalysisFault}
-use Rattle.analysis_commands.specs.Analysis.{timing_of, name_of, IsBoundsFault}
+use Rattle.analysis_commands.specs.Analysis.{timing_of, IsBoundsFault}
 use Rattle.jop_cli.specs.declared.profiling.Prepared.{Prepared}
 use Rattle.commands.specs.declared.outcome.Ending.{Ending}
 use Rattle.commands.specs.Checking.{fault_ending}
 
 pub record IsPrepared (s : Settings) (cs : List ClassFile) (bounds : List LoopBound) (p : Prepared) : Type 0 where
   pub flow : IsFlowOf (resolved cs) p.flow
-  pub names : (m : ℕ) (k : Coded) → slice_get p.flow.methods m ≡ Some k → k.name ≡ name_of cs m
+  pub names : (m : ℕ) (k : Coded) → slice_get p.flow.methods m ≡ Some k → k.name ≡ method_name cs m
   pub long : length p.answers.items ≡ length p.flow.methods
   pub each : (P : Program) → IsFlowOf P p.flow → (m : ℕ) (x : BoundAnswer) → slice_get p.answers.items m ≡ Some x
       → IsBoundAnswer P (timing_of s) (table.bounds_of p.flow bounds) m x

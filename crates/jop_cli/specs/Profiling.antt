@@ -63,7 +63,8 @@ pub record AreRows (methods : ℕ) (heres : List Here) (rows : List Profile) : T
   pub long : length rows ≡ methods
   pub each : (m : ℕ) → m < methods → slice_get rows m ≡ Some (profile_of (of_method m (activations heres)))
 
-pub record Profiles (g : Setting) (reset : machine.State) (limit : ℕ) (old new : Lent) (methods : ℕ) (rows : List Profile) (f : ProgramEnd) : Type 0 where
+pub record Profiles (g : Setting) (reset : machine.MachineState) (limit : ℕ) (old new : Lent) (methods : ℕ) (rows : List Profile)
+    (f : ProgramEnd) : Type 0 where
   pub ran : RanSo g reset limit (wired old) (wired new) f
   pub rows_are : AreRows methods (heres_of g reset limit (wired old) (wired new) f ran) rows
 

@@ -22,7 +22,7 @@ use Rattle.commands.specs.declared.outcome.Ending.TheVariants.{Refused, TooLong}
 use Rattle.jop_cli.specs.declared.task.Task.{Task}
 use Rattle.jop_cli.specs.declared.task.Task.TheVariants.{Run, Profile, Plan, Cycle, Assemble, Link, Ask, Work}
 use Rattle.jop_cli.specs.Tasks.{task_of}
-use Rattle.commands.specs.Linking.{Refuses}
+use Rattle.commands.specs.Linking.{RefusesFiles}
 use Rattle.commands.specs.LinkedFile.{NamesMethod}
 use Rattle.commands.specs.LinkedSettings.{CodesFit, IsTooLong}
 use Rattle.commands.specs.BareFile.{blocks_of_code}
@@ -115,7 +115,7 @@ BadImagesAreRefused =
 abbrev pub UnlinkedImagesAreRefused : Type 0
 UnlinkedImagesAreRefused =
     (c : Call) (task : Task) (bytes : List ℕ) (image : LinkedContent) (refusal : LinkRefusal) → TakesImage c task bytes → file.IsLinkedFile bytes image
-    → Refuses image.files image.main refusal → NothingFailed c
+    → RefusesFiles image.files image.main refusal → NothingFailed c
     → AnswersRefusal c image.files refusal ⊎ LacksMemory c
 
 -- One whose class files are linked to other words is answered with the first that differs.

@@ -1,6 +1,6 @@
 //! What a command does, by the words that it means.
 ghost use Rattle.std.specs.Prelude.{◌≡◌, ℕ};
-ghost use Rattle.command_line.specs.Range.{AreInRange, AreThere, OperandsFollow};
+ghost use Rattle.command_line.specs.Range.{HasNumbersInRange, AreThere, OperandsFollow};
 ghost use Rattle.jop_cli.specs.Tasks.{task_of, IsAmong};
 
 use crate::asking::{Asked, Question};
@@ -75,7 +75,7 @@ fn ask(question: Question, image: u32, operands: u32) -> Task
 /// What the command does.
 pub(crate) fn task_of(command: Command) -> Task
     ensures task { result ≡ task_of command }
-    ensures among { (words : ℕ) → AreInRange command → AreThere words command → OperandsFollow command → IsAmong words result }
+    ensures among { (words : ℕ) → HasNumbersInRange command → AreThere words command → OperandsFollow command → IsAmong words result }
 {
     match command {
         Command::Link { main, first } => Task::Link { main, first },

@@ -10,7 +10,7 @@ ghost use Rattle.commands.specs.World.{world};
 ghost use Rattle.commands.specs.Show.{IsTrace};
 ghost use Rattle.commands.specs.Leaving.{Leaves, LeavesAll, FailsRisen};
 ghost use Rattle.jop_cli.specs.Tasks.{IsAmong};
-ghost use Rattle.jop_cli.specs.Answer.{ReadsLinked, RunsFile, DoesTask, ShowsOutput, TakesFor, TakesInput, RunsProgram, Executed, Answered, Said};
+ghost use Rattle.jop_cli.specs.Answer.{ReadsLinked, RunsFile, DoesTask, ShowsOutput, TakesFor, TakesInput, RunsProgram, Executed, Answered, SaidEnding};
 ghost use Rattle.jop_cli.specs.Answer.{refusal_of, outcome_of, outcome_unsaid};
 
 use crate::asking::ask_files;
@@ -187,7 +187,7 @@ fn execute<F: Files, S: Source, O: Sink, V: Watch>(
 
 /// Puts the line of an ending, and gives the outcome.
 fn conclude<E: Sink>(err: &mut E, words: &[&str], ending: Ending) -> Outcome
-    ensures { Said (texts words.now) ending (E.held err.old) (E.held err.new) (E.faults err.old) (E.faults err.new) result }
+    ensures { SaidEnding (texts words.now) ending (E.held err.old) (E.held err.new) (E.faults err.old) (E.faults err.new) result }
 {
     match say_ending(err, words, &ending) {
         Ok(()) => outcome_for(&ending),

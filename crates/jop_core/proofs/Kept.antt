@@ -12,20 +12,20 @@ use Rattle.method_cache.specs.Contents.{is_cached}
 use Rattle.jop_core.specs.declared.halt.Halt.{Halt}
 use Rattle.jop_core.specs.declared.halt.Halt.TheVariants.{Ended, Uncaught}
 use Rattle.jop_core.specs.declared.places.TheConstants.{STACK}
-use Rattle.jop_core.specs.State.{State}
+use Rattle.jop_core.specs.State.{MachineState}
 use Rattle.jop_core.specs.Operations.{pushed, popped, sign_extended8, sign_extended16, input_word, stored, place_of, word_at, after_binary, holds, branch_target, looked_up, can_switch, switched, halted_at_boot, operated}
 use Rattle.jop_core.specs.Cycle.{branched, with_opd, with_nxt, with_flags, performed, waits, ran, micro_at, counted, cycle_of}
 use Rattle.jop_core.specs.Keeps.{KeepsSizes, IsCycle, CyclesKeep}
 
 -- the sizes and the clock stay
-pub record Keeps (old new : State) : Type 0 where
+pub record Keeps (old new : MachineState) : Type 0 where
   pub sizes : KeepsSizes old new
   pub clock : new.clock ≡ old.clock
 
-keeps_refl : (s : State) → Keeps s s
+keeps_refl : (s : MachineState) → Keeps s s
 keeps_refl s = record { sizes = record { stack = refl; memory = refl; read = refl; write = refl; blocks = refl; block_words = refl }; clock = refl }
 
-keeps_trans : (s t u : State) → Keeps s t → Keeps t u → Keeps s u
+keeps_trans : (s t u : MachineState) → Keeps s t → Keeps t u → Keeps s u
 keeps_trans s t u first second = let a = first.sizes in let b = second.sizes in record {
   sizes = record {
     stack = b.stack ∙ a.stack;
@@ -38,39 +38,39 @@ keeps_trans s t u first second = let a = first.sizes in let b = second.sizes in 
   clock = second.clock ∙ first.clock;
 }
 
-if_keeps : (b : Bool) (s t u : State) → Keeps s t → Keeps s u → Keeps s (if b then t else u)
+if_keeps : (b : Bool) (s t u : MachineState) → Keeps s t → Keeps s u → Keeps s (if b then t else u)
 if_keeps true s t u first second = first
 if_keeps false s t u first second = second
 
-popped_keeps : (s : State) → Keeps s (popped s)
+popped_keeps : (s : MachineState) → Keeps s (popped s)
 popped_keeps s = record { sizes = record { stack = refl; memory = refl; read = refl; write = refl; blocks = refl; block_words = refl }; clock = refl }
 
-pushed_keeps : (x : ℕ) (s : State) → Keeps s (pushed x s)
+pushed_keeps : (x : ℕ) (s : MachineState) → Keeps s (pushed x s)
 pushed_keeps x s = record { sizes = record { stack = length-set s.stack (place_of s (s.sp + 1)) s.b; memory = refl; read = refl; write = refl; blocks = refl; block_words = refl }; clock = refl }
 
-stored_keeps : (place : ℕ) (s : State) → Keeps s (stored place s)
+stored_keeps : (place : ℕ) (s : MachineState) → Keeps s (stored place s)
 stored_keeps place s = record { sizes = record { stack = length-set s.stack (place_of s place) s.a; memory = refl; read = refl; write = refl; blocks = refl; block_words = refl }; clock = refl }
 
-binary_keeps : (op : Operation) (s : State) → Keeps s (after_binary op s)
+binary_keeps : (op : Operation) (s : MachineState) → Keeps s (after_binary op s)
 binary_keeps op s = record { sizes = record { stack = refl; memory = refl; read = refl; write = refl; blocks = refl; block_words = refl }; clock = refl }
 
-looked_up_keeps : (is_hit : Bool) (m : ℕ) (s : State) → Keeps s (looked_up is_hit m s)
+looked_up_keeps : (is_hit : Bool) (m : ℕ) (s : MachineState) → Keeps s (looked_up is_hit m s)
 looked_up_keeps true m s = record { sizes = record { stack = refl; memory = refl; read = refl; write = refl; blocks = refl; block_words = refl }; clock = refl }
 looked_up_keeps false m s = record { sizes = record { stack = refl; memory = refl; read = refl; write = refl; blocks = refl; block_words = refl }; clock = refl }
 
-switched_keeps : (s : State) → Keeps s (switched s)
+switched_keeps : (s : MachineState) → Keeps s (switched s)
 switched_keeps s =
     if_keeps (can_switch s s.a) s (looked_up (is_cached s.a s.cache) s.a (popped s)) (popped s)
     (keeps_trans s (popped s) (looked_up (is_cached s.a s.cache) s.a (popped s)) (popped_keeps s) (looked_up_keeps (is_cached s.a s.cache) s.a (popped s)))
     (popped_keeps s)
 
-halted_keeps : (halt : Halt) (s : State) → Keeps s (halted_at_boot halt s)
+halted_keeps : (halt : Halt) (s : MachineState) → Keeps s (halted_at_boot halt s)
 halted_keeps halt s = if_keeps (s.vp == STACK) s (record s { halt = halt }) s (record { sizes = record { stack = refl; memory = refl; read = refl; write = refl; blocks = refl; block_words = refl }; clock = refl }) (keeps_refl s)
 
-jbr_keeps : (s : State) → Keeps s (operated None Jbr s)
+jbr_keeps : (s : MachineState) → Keeps s (operated None Jbr s)
 jbr_keeps s = if_keeps (holds s.opcode s.b s.a) s (record (popped s) { jpc = branch_target s }) (popped s) (record { sizes = record { stack = refl; memory = refl; read = refl; write = refl; blocks = refl; block_words = refl }; clock = refl }) (popped_keeps s)
 
-operated_keeps : (input : Option ℕ) (op : Operation) (s : State) → Keeps s (operated input op s)
+operated_keeps : (input : Option ℕ) (op : Operation) (s : MachineState) → Keeps s (operated input op s)
 operated_keeps input Nop s = keeps_refl s
 operated_keeps input Pop s = popped_keeps s
 operated_keeps input Dup s = pushed_keeps s.a s
@@ -120,23 +120,23 @@ operated_keeps input Stout s = popped_keeps s
 operated_keeps input Hltb s = halted_keeps Ended s
 operated_keeps input Hltu s = halted_keeps Uncaught s
 
-opd_keeps : (opd : Bool) (s : State) → Keeps s (with_opd opd s)
+opd_keeps : (opd : Bool) (s : MachineState) → Keeps s (with_opd opd s)
 opd_keeps true s = record { sizes = record { stack = refl; memory = refl; read = refl; write = refl; blocks = refl; block_words = refl }; clock = refl }
 opd_keeps false s = keeps_refl s
 
-nxt_keeps : (nxt : Bool) (s : State) → Keeps s (with_nxt nxt s)
+nxt_keeps : (nxt : Bool) (s : MachineState) → Keeps s (with_nxt nxt s)
 nxt_keeps true s = record { sizes = record { stack = refl; memory = refl; read = refl; write = refl; blocks = refl; block_words = refl }; clock = refl }
 nxt_keeps false s = record { sizes = record { stack = refl; memory = refl; read = refl; write = refl; blocks = refl; block_words = refl }; clock = refl }
 
 -- what came first, and then the flags
-flags_keep : (m : Micro) (s t : State) → Keeps s t → Keeps s (with_flags m t)
+flags_keep : (m : Micro) (s t : MachineState) → Keeps s t → Keeps s (with_flags m t)
 flags_keep m s t first = keeps_trans s t (with_flags m t) first (keeps_trans t (with_opd m.opd t) (with_flags m t) (opd_keeps m.opd t) (nxt_keeps m.nxt (with_opd m.opd t)))
 
-branched_keeps : (taken : Bool) (to : ℕ) (s t : State) → Keeps s t → Keeps s (branched taken to t)
+branched_keeps : (taken : Bool) (to : ℕ) (s t : MachineState) → Keeps s t → Keeps s (branched taken to t)
 branched_keeps true to s t first = keeps_trans s t (branched true to t) first (record { sizes = record { stack = refl; memory = refl; read = refl; write = refl; blocks = refl; block_words = refl }; clock = refl })
 branched_keeps false to s t first = keeps_trans s t (branched false to t) first (record { sizes = record { stack = refl; memory = refl; read = refl; write = refl; blocks = refl; block_words = refl }; clock = refl })
 
-body_keeps : (input : Option ℕ) (body : Body) (opd nxt : Bool) (s : State) → Keeps s (performed input (record { body = body; opd = opd; nxt = nxt }) s)
+body_keeps : (input : Option ℕ) (body : Body) (opd nxt : Bool) (s : MachineState) → Keeps s (performed input (record { body = body; opd = opd; nxt = nxt }) s)
 body_keeps input (Plain code) opd nxt s = flags_keep (record { body = Plain code; opd = opd; nxt = nxt }) s (operated input (operation_of code) s) (operated_keeps input (operation_of code) s)
 body_keeps input (Stm place) opd nxt s = flags_keep (record { body = Stm place; opd = opd; nxt = nxt }) s (stored place s) (stored_keeps place s)
 body_keeps input (Ldm place) opd nxt s = flags_keep (record { body = Ldm place; opd = opd; nxt = nxt }) s (pushed (word_at s place) s) (pushed_keeps (word_at s place) s)
@@ -145,15 +145,15 @@ body_keeps input (Bz to) opd nxt s = branched_keeps (s.a == 0) to s (popped s) (
 body_keeps input (Bnz to) opd nxt s = branched_keeps (nat_lt 0 s.a) to s (popped s) (popped_keeps s)
 body_keeps input (Jmp to) opd nxt s = branched_keeps true to s s (keeps_refl s)
 
-pub ran_keeps : (input : Option ℕ) (m : Option Micro) (s : State) → Keeps s (ran input m s)
+pub ran_keeps : (input : Option ℕ) (m : Option Micro) (s : MachineState) → Keeps s (ran input m s)
 ran_keeps input None s = keeps_refl s
 ran_keeps input (Some m) s = if_keeps (waits m s) s s (performed input m s) (keeps_refl s) (body_keeps input m.body m.opd m.nxt s)
 
 -- a cycle first counts
-counts : (s t : State) → Keeps (counted s) t → IsCycle s t
+counts : (s t : MachineState) → Keeps (counted s) t → IsCycle s t
 counts s t keeps = let k = keeps.sizes in record { sizes = record { stack = k.stack; memory = k.memory; read = k.read; write = k.write; blocks = k.blocks; block_words = k.block_words }; clock = keeps.clock }
 
-either : (stalled : Bool) (s t u : State) → Keeps (counted s) t → Keeps (counted s) u → IsCycle s (if stalled then t else u)
+either : (stalled : Bool) (s t u : MachineState) → Keeps (counted s) t → Keeps (counted s) u → IsCycle s (if stalled then t else u)
 either true s t u first second = counts s t first
 either false s t u first second = counts s u second
 

@@ -15,32 +15,32 @@ use Rattle.jop_core.specs.declared.tick.Tick.TheVariants.{Went}
 use Rattle.device_traits.specs.declared.fault.DeviceFault.{DeviceFault}
 use Rattle.device_traits.specs.declared.fault.DeviceFault.TheVariants.{Input, Output, Seen as SeenFault}
 use Rattle.device_traits.specs.declared.seen.Seen.{Seen}
-use Rattle.jop_core.specs.State.{State, seen_of}
+use Rattle.jop_core.specs.State.{MachineState, seen_of}
 use Rattle.device_traits.specs.Told.{Told, Saw, Passed, PassedInPart, Exchanged, CountsRise, OnlyReads, OnlySees, OnlyWrites, Sees}
 use Rattle.jop_core.specs.Ticked.{Ticked, AskedIn, PutOut, writes_of, first_write, notes_of}
 use Rattle.jop_core.proofs.Tells.{Passed-trans, PassedInPart-after, Passed-quiet, Exchanged-after, Exchanged-before}
 use Rattle.jop_core.specs.Cycle.{cycle_of, asks_input, output_of, ran, counted, asks, body_asks, is_ldin, puts, body_outputs, is_stout}
 
-pub cycle_of-here : (s : State) (address : ℕ) (m : Option Micro) (input : Option ℕ) → nat_lt 0 s.stall ≡ false → address ≡ s.mpc → micro_of (slice_index WORDS address) ≡ m
+pub cycle_of-here : (s : MachineState) (address : ℕ) (m : Option Micro) (input : Option ℕ) → nat_lt 0 s.stall ≡ false → address ≡ s.mpc → micro_of (slice_index WORDS address) ≡ m
     → cycle_of input s ≡ ran input m (counted s)
 unfolding cycle_of
 cycle_of-here s address m input still at is = rw (still, ← at, is) refl
 
-pub output_of-here : (s : State) (address : ℕ) (m : Option Micro) (a : ℕ) → nat_lt 0 s.stall ≡ false → address ≡ s.mpc → micro_of (slice_index WORDS address) ≡ m → a ≡ s.a
+pub output_of-here : (s : MachineState) (address : ℕ) (m : Option Micro) (a : ℕ) → nat_lt 0 s.stall ≡ false → address ≡ s.mpc → micro_of (slice_index WORDS address) ≡ m → a ≡ s.a
     → output_of s ≡ puts m a
 unfolding output_of
 output_of-here s address m a still at is top = rw (still, ← at, is, top) refl
 
-pub asks_input-here : (s : State) (address : ℕ) (m : Option Micro) → nat_lt 0 s.stall ≡ false → address ≡ s.mpc → micro_of (slice_index WORDS address) ≡ m → asks_input s ≡ asks m
+pub asks_input-here : (s : MachineState) (address : ℕ) (m : Option Micro) → nat_lt 0 s.stall ≡ false → address ≡ s.mpc → micro_of (slice_index WORDS address) ≡ m → asks_input s ≡ asks m
 unfolding asks_input
 asks_input-here s address m still at is = rw (still, ← at, is) refl
 
 -- the state was handed over, and then a byte was asked for where the microinstruction asks for one
-pub record Begun (old : State) (asked : Bool) (input : Option ℕ) (t0 t2 : Told) : Type 0 where
+pub record Begun (old : MachineState) (asked : Bool) (input : Option ℕ) (t0 t2 : Told) : Type 0 where
   pub exchanged : Exchanged t0 t2 asked input [] (seen_of old ∷ []) (Saw (seen_of old) ∷ [])
   pub counts : CountsRise t0 t2
 
-pub begun : (old : State) (at : Seen) (asked : Bool) (input : Option ℕ) (t0 t1 t2 : Told) → at ≡ seen_of old
+pub begun : (old : MachineState) (at : Seen) (asked : Bool) (input : Option ℕ) (t0 t1 t2 : Told) → at ≡ seen_of old
     → Passed t0 t1 [] (at ∷ []) (Saw at ∷ []) → OnlySees t0 t1 → Exchanged t1 t2 asked input [] [] [] → OnlyReads t1 t2 → Begun old asked input t0 t2
 begun old at asked input t0 t1 t2 at_is seen sees took reads = record {
   exchanged = Exchanged-after t0 t1 t2 asked input [] [] [] (at ∷ []) [] (seen_of old ∷ []) (Saw at ∷ []) [] (Saw (seen_of old) ∷ []) seen took refl
@@ -49,7 +49,7 @@ begun old at asked input t0 t1 t2 at_is seen sees took reads = record {
 }
 
 -- a cycle that was done: then the byte was put out
-pub Ticked-went : (old new : State) (input : Option ℕ) (asked : Bool) (out : List ℕ) (t0 t1 t2 : Told) → old.halt ≡ Running → new ≡ cycle_of input old
+pub Ticked-went : (old new : MachineState) (input : Option ℕ) (asked : Bool) (out : List ℕ) (t0 t1 t2 : Told) → old.halt ≡ Running → new ≡ cycle_of input old
     → asks_input old ≡ asked → output_of old ≡ out → Begun old asked input t0 t1 → Passed t1 t2 out [] (writes_of out) → OnlyWrites t1 t2 → Ticked old new t0 t2 (Ok Went)
 Ticked-went old new input asked out t0 t1 t2 running is asks_is outputs start put writes =
     let A : Bool → Type 0 = λ b. Exchanged t0 t2 b input (output_of old) (seen_of old ∷ []) (notes_of old) in (
@@ -63,7 +63,7 @@ Ticked-went old new input asked out t0 t1 t2 running is asks_is outputs start pu
     )
 
 -- a cycle whose byte could not be put out: a microinstruction that puts one out asks for none
-pub Ticked-refused : (old : State) (input : Option ℕ) (asked : Bool) (out : List ℕ) (t0 t1 t2 : Told) (fault : DeviceFault) → old.halt ≡ Running
+pub Ticked-refused : (old : MachineState) (input : Option ℕ) (asked : Bool) (out : List ℕ) (t0 t1 t2 : Told) (fault : DeviceFault) → old.halt ≡ Running
     → (out ≢ [] → asked ≡ false) → output_of old ≡ out → Begun old asked input t0 t1 → PutOut {T = ℕ} t1 t2 out (Err fault) → Ticked old old t0 t2 (Err fault)
 Ticked-refused old input asked out t0 t1 t2 Output running quiet outputs start put =
     let A : Bool → Type 0 = λ b. Exchanged t0 t1 b input [] (seen_of old ∷ []) (Saw (seen_of old) ∷ []) in
@@ -81,7 +81,7 @@ Ticked-refused old input asked out t0 t1 t2 Input running quiet outputs start pu
 Ticked-refused old input asked out t0 t1 t2 SeenFault running quiet outputs start put = absurd put
 
 -- a cycle whose input failed
-pub Ticked-unread : (old : State) (asked : Bool) (at : Seen) (t0 t1 t2 : Told) (fault : DeviceFault) → old.halt ≡ Running → asks_input old ≡ asked → at ≡ seen_of old
+pub Ticked-unread : (old : MachineState) (asked : Bool) (at : Seen) (t0 t1 t2 : Told) (fault : DeviceFault) → old.halt ≡ Running → asks_input old ≡ asked → at ≡ seen_of old
     → Passed t0 t1 [] (at ∷ []) (Saw at ∷ []) → OnlySees t0 t1 → AskedIn t1 t2 asked (Err fault) → Ticked old old t0 t2 (Err fault)
 Ticked-unread old asked at t0 t1 t2 Input running asks_is at_is seen sees failed = let reads = failed.1 in (
   running,
@@ -96,7 +96,7 @@ Ticked-unread old asked at t0 t1 t2 Output running asks_is at_is seen sees faile
 Ticked-unread old asked at t0 t1 t2 SeenFault running asks_is at_is seen sees failed = absurd failed
 
 -- a cycle whose state could not be handed over
-pub Ticked-unseen : (old : State) (at : Seen) (t0 t1 : Told) (fault : DeviceFault) → old.halt ≡ Running → at ≡ seen_of old → Sees {T = ℕ} t0 t1 at (Err fault)
+pub Ticked-unseen : (old : MachineState) (at : Seen) (t0 t1 : Told) (fault : DeviceFault) → old.halt ≡ Running → at ≡ seen_of old → Sees {T = ℕ} t0 t1 at (Err fault)
     → Ticked old old t0 t1 (Err fault)
 Ticked-unseen old at t0 t1 SeenFault running at_is failed =
     let P : Seen → Type 0 = λ x. PassedInPart t0 t1 [] [] (Saw x) in

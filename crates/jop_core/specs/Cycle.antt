@@ -14,16 +14,16 @@ use Rattle.memory_timing.specs.Port.{ticked}
 use Rattle.method_cache.specs.Contents.{word_of}
 use Rattle.jop_core.specs.declared.halt.Halt.{Halt}
 use Rattle.jop_core.specs.declared.halt.Halt.TheVariants.{Running, Ended, Uncaught}
-use Rattle.jop_core.specs.State.{State}
+use Rattle.jop_core.specs.State.{MachineState}
 pub use Rattle.base.specs.Packed.{byte_of}
 use Rattle.jop_core.specs.Operations.{pushed, popped, stored, word_at, operated}
 
 -- a byte of the current method; past its words, and where the cache doesn't hold it, it is 0
-abbrev pub code_byte : State → ℕ → ℕ
+abbrev pub code_byte : MachineState → ℕ → ℕ
 code_byte s place = byte_of (word_of s.method (place / 4) s.cache) (place % 4)
 
 -- the byte at jpc
-abbrev pub byte_at : State → ℕ
+abbrev pub byte_at : MachineState → ℕ
 byte_at s = code_byte s s.jpc
 
 -- where the row of an opcode begins
@@ -31,29 +31,29 @@ abbrev pub entry_of : ℕ → ℕ
 entry_of op = slice_index ENTRIES op
 
 -- the next address
-abbrev pub advanced : State → State
+abbrev pub advanced : MachineState → MachineState
 advanced s = record s { mpc = (s.mpc + 1) % 2048 }
 
 -- a branch of the microcode, and the stall of one that is taken
-abbrev pub branched : Bool → ℕ → State → State
+abbrev pub branched : Bool → ℕ → MachineState → MachineState
 branched true to s = record s { mpc = to; stall = 2 }
 branched false to s = advanced s
 
 -- the flag opd: the byte at jpc is shifted into the operand register
-abbrev pub with_opd : Bool → State → State
+abbrev pub with_opd : Bool → MachineState → MachineState
 with_opd true s = record s { operand = (s.operand * 2 ^ 8 + byte_at s) % 2 ^ 32; jpc = (s.jpc + 1) % 2 ^ 16 }
 with_opd false s = s
 
 -- the flag nxt: the byte at jpc is the next opcode, and its row the next to run
-abbrev pub with_nxt : Bool → State → State
+abbrev pub with_nxt : Bool → MachineState → MachineState
 with_nxt true s = record s { operand = 0; opcode = byte_at s; jpc = (s.jpc + 1) % 2 ^ 16; mpc = entry_of (byte_at s) }
 with_nxt false s = advanced s
 
-abbrev pub with_flags : Micro → State → State
+abbrev pub with_flags : Micro → MachineState → MachineState
 with_flags m s = with_nxt m.nxt (with_opd m.opd s)
 
 -- what a microinstruction does
-abbrev pub performed : (input : Option ℕ) → Micro → State → State
+abbrev pub performed : (input : Option ℕ) → Micro → MachineState → MachineState
 performed input m s =
     elim m.body [
       | Plain code ↦ with_flags m (operated input (operation_of code) s)
@@ -74,23 +74,23 @@ body_waits (Plain code) = is_wait (operation_of code)
 body_waits _ = false
 
 -- a wait at a port that isn't ready does nothing at all
-abbrev pub waits : Micro → State → Bool
+abbrev pub waits : Micro → MachineState → Bool
 waits m s = body_waits m.body && nat_lt 0 s.port.count
 
-abbrev pub ran : (input : Option ℕ) → Option Micro → State → State
+abbrev pub ran : (input : Option ℕ) → Option Micro → MachineState → MachineState
 ran input None s = s
 ran input (Some m) s = if waits m s then s else performed input m s
 
 -- the microinstruction at mpc
-abbrev pub micro_at : State → Option Micro
+abbrev pub micro_at : MachineState → Option Micro
 micro_at s = micro_of (slice_index WORDS s.mpc)
 
 -- the clock rises, and a port that is busy comes nearer to ready
-abbrev pub counted : State → State
+abbrev pub counted : MachineState → MachineState
 counted s = record s { clock = s.clock + 1; port = ticked s.port }
 
 -- A cycle of a machine that hasn't halted: a pending stall falls, and without one a microinstruction runs. The input is the answer to `ldin`.
-unfoldable pub cycle_of : (input : Option ℕ) → State → State
+unfoldable pub cycle_of : (input : Option ℕ) → MachineState → MachineState
 cycle_of input s = if nat_lt 0 s.stall then record (counted s) { stall = s.stall - 1 } else ran input (micro_at s) (counted s)
 
 abbrev pub is_ldin : Operation → Bool
@@ -106,7 +106,7 @@ asks None = false
 asks (Some m) = body_asks m.body
 
 -- whether the cycle asks for the next byte of the input
-unfoldable pub asks_input : State → Bool
+unfoldable pub asks_input : MachineState → Bool
 asks_input s = if nat_lt 0 s.stall then false else asks (micro_at s)
 
 abbrev pub is_stout : Operation → Bool
@@ -123,7 +123,7 @@ puts None a = []
 puts (Some m) a = if body_outputs m.body then a % 2 ^ 8 ∷ [] else []
 
 -- the byte that the cycle puts out, if it puts one
-unfoldable pub output_of : State → List ℕ
+unfoldable pub output_of : MachineState → List ℕ
 output_of s = if nat_lt 0 s.stall then [] else puts (micro_at s) s.a
 
 abbrev pub is_running : Halt → Bool
@@ -132,5 +132,5 @@ is_running Ended = false
 is_running Uncaught = false
 
 -- about to run the first microinstruction of a bytecode or of the raise routine, or halted
-abbrev pub at_boundary : State → Bool
+abbrev pub at_boundary : MachineState → Bool
 at_boundary s = if is_running s.halt then s.stall == 0 && (s.mpc == entry_of s.opcode || s.mpc == RAISE) else true

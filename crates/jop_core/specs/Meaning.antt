@@ -4,10 +4,10 @@ use Rattle.base.specs.Packed.{byte_of}
 use Rattle.method_cache.specs.Contents.{Cache, word_of}
 use Rattle.jop_core.specs.declared.machine.Machine.TheInside.{Inside}
 use Rattle.jop_core.specs.declared.halt.Halt.{Halt}
-use Rattle.jop_core.specs.State.{State, IsState}
+use Rattle.jop_core.specs.State.{MachineState, IsState}
 use Rattle.jop_core.specs.Cycle.{is_running}
 
-abbrev pub state_of : {n : ℕ} → Inside n → State
+abbrev pub state_of : {n : ℕ} → Inside n → MachineState
 state_of m = record {
   a = m.a;
   b = m.b;

@@ -12,26 +12,26 @@ use Rattle.method_cache.specs.Contents.{can_load, is_cached, loaded}
 use Rattle.jop_core.specs.declared.halt.Halt.{Halt}
 use Rattle.jop_core.specs.declared.halt.Halt.TheVariants.{Ended, Uncaught}
 use Rattle.jop_core.specs.declared.places.TheConstants.{STACK}
-use Rattle.jop_core.specs.State.{State}
+use Rattle.jop_core.specs.State.{MachineState}
 pub use Rattle.base.specs.Signed.{sign_extended8, sign_extended16, is_negative, signed_lt, shifted_right, number_of, holds}
 
 -- the place below which each on-chip place stays
-abbrev pub place_of : State → ℕ → ℕ
+abbrev pub place_of : MachineState → ℕ → ℕ
 place_of s place = place % length s.stack
 
-abbrev pub word_at : State → ℕ → ℕ
+abbrev pub word_at : MachineState → ℕ → ℕ
 word_at s place = slice_index s.stack (place_of s place)
 
 -- the on-chip word behind SP becomes B, B becomes A, and A the word
-abbrev pub pushed : ℕ → State → State
+abbrev pub pushed : ℕ → MachineState → MachineState
 pushed x s = record s { stack = slice_set s.stack (place_of s (s.sp + 1)) s.b; sp = place_of s (s.sp + 1); b = s.a; a = x }
 
 -- A becomes B, and B the on-chip word at SP
-abbrev pub popped : State → State
+abbrev pub popped : MachineState → MachineState
 popped s = record s { a = s.b; b = word_at s s.sp; sp = place_of s (s.sp + (length s.stack - 1)) }
 
 -- pops into the on-chip word at a place
-abbrev pub stored : ℕ → State → State
+abbrev pub stored : ℕ → MachineState → MachineState
 stored place s = record (popped s) { stack = slice_set s.stack (place_of s place) s.a }
 
 -- the result of a binary operation on B and A
@@ -50,11 +50,11 @@ combined Sltu b a = number_of (nat_lt b a)
 combined _ b a = b
 
 -- a binary operation pops, and sets A
-abbrev pub after_binary : Operation → State → State
+abbrev pub after_binary : Operation → MachineState → MachineState
 after_binary op s = record (popped s) { a = combined op s.b s.a }
 
 -- where a branch of a bytecode goes, whose opcode and offset were read
-abbrev pub branch_target : State → ℕ
+abbrev pub branch_target : MachineState → ℕ
 branch_target s = (s.jpc + (2 ^ 16 - 3) + sign_extended16 s.operand % 2 ^ 16) % 2 ^ 16
 
 -- the next byte of the input, and all bits at its end
@@ -70,12 +70,12 @@ abbrev pub code_place : List ℕ → ℕ → ℕ
 code_place memory m = m + 4 + 3 * slice_index memory (m + 3)
 
 -- it has code, which lies in memory and fits the cache
-abbrev pub can_switch : State → ℕ → Bool
+abbrev pub can_switch : MachineState → ℕ → Bool
 can_switch s m =
     can_load (code_words s.port.words m) s.cache && nat_le (code_place s.port.words m + code_words s.port.words m) (length s.port.words)
 
 -- the words of its code
-abbrev pub code_of : State → ℕ → List ℕ
+abbrev pub code_of : MachineState → ℕ → List ℕ
 code_of s m = slice_range s.port.words (code_place s.port.words m) (code_place s.port.words m + code_words s.port.words m)
 
 -- the cycles that a load of n words stalls
@@ -83,7 +83,7 @@ abbrev pub load_stall : Port → ℕ → ℕ
 load_stall port n = 4 + n * (2 + port.read)
 
 -- A look-up of a method that the cache holds, and of one that it loads. The counts of both have 64 bits.
-abbrev pub looked_up : (is_hit : Bool) → ℕ → State → State
+abbrev pub looked_up : (is_hit : Bool) → ℕ → MachineState → MachineState
 looked_up true m s = record s { method = m; hits = (s.hits + 1) % 2 ^ 64 }
 looked_up false m s = record s {
   method = m;
@@ -93,15 +93,15 @@ looked_up false m s = record s {
 }
 
 -- the method at A's place becomes the current one; a place of no method only pops
-abbrev pub switched : State → State
+abbrev pub switched : MachineState → MachineState
 switched s = if can_switch s s.a then looked_up (is_cached s.a s.cache) s.a (popped s) else popped s
 
 -- the machine halts where the top frame is boot's, whose locals are the first words of the stack
-abbrev pub halted_at_boot : Halt → State → State
+abbrev pub halted_at_boot : Halt → MachineState → MachineState
 halted_at_boot halt s = if s.vp == STACK then record s { halt = halt } else s
 
 -- The effect of an operation, apart from the flags of its word and the next address, where `ldin` is given this input.
-abbrev pub operated : (input : Option ℕ) → Operation → State → State
+abbrev pub operated : (input : Option ℕ) → Operation → MachineState → MachineState
 operated input Nop s = s
 operated input Pop s = popped s
 operated input Dup s = pushed s.a s

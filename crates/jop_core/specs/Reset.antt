@@ -7,7 +7,7 @@ use Rattle.method_cache.specs.Contents.{empty, loaded, can_load}
 use Rattle.microcode_rom.specs.declared.TheConstants.{CONSTANTS}
 use Rattle.jop_core.specs.declared.halt.Halt.TheVariants.{Running, Uncaught}
 use Rattle.jop_core.specs.declared.places.TheConstants.{POOL, STACK, RAISED}
-use Rattle.jop_core.specs.State.{State}
+use Rattle.jop_core.specs.State.{MachineState}
 pub use Rattle.base.specs.Packed.{word_at_bytes, words_from, words_for, words_of_bytes}
 use Rattle.jop_core.specs.Operations.{code_words, code_place}
 use Rattle.jop_core.specs.Cycle.{byte_of, entry_of}
@@ -37,7 +37,7 @@ abbrev pub first_byte : List ℕ → ℕ
 first_byte code = byte_of (slice_index code 0) 0
 
 -- boot's frame stands on the stack without operands, and boot's method is in the cache
-abbrev pub reset_of : (n : ℕ) → Start → Config → State
+abbrev pub reset_of : (n : ℕ) → Start → Config → MachineState
 reset_of n start config = record {
   a = 0;
   b = 0;
@@ -72,7 +72,7 @@ bare_start image = record {
   raise_list = 0;
 }
 
-abbrev pub bare_reset : (n : ℕ) → BareContent → Config → State
+abbrev pub bare_reset : (n : ℕ) → BareContent → Config → MachineState
 bare_reset n image config = reset_of n (bare_start image) config
 
 -- Of image words, word 1 is the place of boot's method, word 2 that of its pool, and word 4 that of the raise list. A method's first word has its
@@ -91,7 +91,7 @@ linked_start image =
       raise_list = slice_index image 4;
     }
 
-abbrev pub linked_reset : (n : ℕ) → List ℕ → Config → State
+abbrev pub linked_reset : (n : ℕ) → List ℕ → Config → MachineState
 linked_reset n image config = reset_of n (linked_start image) config
 
 -- image words that a machine with these settings can begin with: they fit its memory, and boot's method lies whole in them and fits the cache
@@ -106,5 +106,5 @@ abbrev pub CanStartBare : BareContent → Config → Type 0
 CanStartBare image config = IsTrue (can_load (words_for (length image.code)) (empty config.blocks config.block_words))
 
 -- where the machine has halted uncaught, the number of the class of the object that was raised: the first word of its type
-abbrev pub uncaught_of : State → Option ℕ
+abbrev pub uncaught_of : MachineState → Option ℕ
 uncaught_of s = elim s.halt [ Uncaught ↦ Some (slice_index s.port.words (slice_index s.port.words (slice_index s.stack RAISED))) | _ ↦ None ]

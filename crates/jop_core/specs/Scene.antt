@@ -2,19 +2,19 @@
 use Rattle.std.specs.Prelude.{ℕ, zero, suc, Bool, true, false, List, [], ◌∷◌, ◌++◌, None}
 use Rattle.std.specs.declared.option.Option.{Option}
 use Rattle.device_traits.specs.declared.seen.Seen.{Seen}
-use Rattle.jop_core.specs.State.{State, seen_of}
+use Rattle.jop_core.specs.State.{MachineState, seen_of}
 use Rattle.jop_core.specs.Cycle.{cycle_of, asks_input, output_of}
-use Rattle.device_traits.specs.Told.{Note}
+use Rattle.device_traits.specs.Told.{DeviceNote}
 use Rattle.jop_core.specs.Ticked.{notes_of}
 
 -- answers are those to come, each a byte or the end of the input, and output has the bytes that were put out, the last one first
 pub record Scene : Type 0 where
-  pub state : State
+  pub state : MachineState
   pub answers : List (Option ℕ)
   pub output : List ℕ
 
 -- a machine that has put nothing out yet
-abbrev pub begun : State → List (Option ℕ) → Scene
+abbrev pub begun : MachineState → List (Option ℕ) → Scene
 begun s answers = record { state = s; answers = answers; output = [] }
 
 -- the next answer; past the last one the input has ended
@@ -59,6 +59,6 @@ seen_during zero c = []
 seen_during (suc k) c = seen_during k c ++ seen_of (run k c).state ∷ []
 
 -- what a device notes of these cycles
-unfoldable pub notes_during : ℕ → Scene → List Note
+unfoldable pub notes_during : ℕ → Scene → List DeviceNote
 notes_during zero c = []
 notes_during (suc k) c = notes_during k c ++ notes_of (run k c).state

@@ -6,7 +6,7 @@ use Rattle.method_cache.specs.Contents.{Cache}
 use Rattle.jop_core.specs.declared.halt.Halt.{Halt}
 use Rattle.device_traits.specs.declared.seen.Seen.{Seen}
 
-pub record State : Type 0 where
+pub record MachineState : Type 0 where
   -- the two top words of the stack
   pub a : ℕ
   pub b : ℕ
@@ -37,11 +37,11 @@ pub record State : Type 0 where
   pub misses : ℕ
 
 -- what a device is handed of a state
-abbrev pub seen_of : State → Seen
+abbrev pub seen_of : MachineState → Seen
 seen_of s = record { clock = s.clock; mpc = s.mpc; a = s.a; b = s.b; sp = s.sp; vp = s.vp }
 
 -- what holds of each state of a machine with n on-chip words
-pub record IsState (n : ℕ) (s : State) : Type 0 where
+pub record IsState (n : ℕ) (s : MachineState) : Type 0 where
   pub size : IsSize n
   pub stack : HoldsWords n s.stack
   pub sp : s.sp < n

@@ -12,7 +12,7 @@ use Rattle.jop_core.specs.declared.steps.Action.TheVariants.{Stmra, Stmwa, Stmwd
 use Rattle.jop_core.specs.declared.steps.Action.TheVariants.{Jmp}
 use Rattle.jop_core.specs.declared.steps.Flags.{Flags}
 use Rattle.jop_core.specs.declared.steps.Step.{Step}
-use Rattle.jop_core.specs.State.{State}
+use Rattle.jop_core.specs.State.{MachineState}
 use Rattle.jop_core.specs.Operations.{pushed, popped, stored, word_at, operated}
 
 -- the body of a microinstruction that does this
@@ -91,7 +91,7 @@ HasTarget (Jmp to) = to < 2048
 HasTarget _ = Unit {0}
 
 -- what a microinstruction that doesn't branch does, apart from its flags
-abbrev pub acted : (input : Option ℕ) → Body → State → State
+abbrev pub acted : (input : Option ℕ) → Body → MachineState → MachineState
 acted input (body.Plain code) s = operated input (operation_of code) s
 acted input (body.Stm place) s = stored place s
 acted input (body.Ldm place) s = pushed (word_at s place) s
@@ -99,5 +99,5 @@ acted input (body.Ldi number) s = pushed (word_at s (32 + number)) s
 acted input _ s = s
 
 -- pops, and sets A
-abbrev pub replaced : ℕ → State → State
+abbrev pub replaced : ℕ → MachineState → MachineState
 replaced word s = record (popped s) { a = word }

@@ -6,22 +6,22 @@ use Rattle.base.specs.Telling.{Rose}
 use Rattle.jop_core.specs.declared.halt.Halt.TheVariants.{Running}
 use Rattle.jop_core.specs.declared.tick.Tick.{Tick}
 use Rattle.jop_core.specs.declared.tick.Tick.TheVariants.{Went, Halted}
-use Rattle.jop_core.specs.State.{State, seen_of}
+use Rattle.jop_core.specs.State.{MachineState, seen_of}
 use Rattle.jop_core.specs.Cycle.{cycle_of, asks_input, output_of}
 use Rattle.device_traits.specs.declared.fault.DeviceFault.{DeviceFault}
 use Rattle.device_traits.specs.declared.fault.DeviceFault.TheVariants.{Input, Output, Seen}
-use Rattle.device_traits.specs.Told.{Told, Note, Wrote, Saw, Passed, PassedInPart, Exchanged, CountsRise, OnlyReads, OnlyWrites}
+use Rattle.device_traits.specs.Told.{Told, DeviceNote, Wrote, Saw, Passed, PassedInPart, Exchanged, CountsRise, OnlyReads, OnlyWrites}
 
-abbrev pub writes_of : List ℕ → List Note
+abbrev pub writes_of : List ℕ → List DeviceNote
 writes_of [] = []
 writes_of (byte ∷ bytes) = Wrote byte ∷ writes_of bytes
 
 -- what a device notes of a cycle: the state before it, then the byte that it puts out
-abbrev pub notes_of : State → List Note
+abbrev pub notes_of : MachineState → List DeviceNote
 notes_of s = Saw (seen_of s) ∷ writes_of (output_of s)
 
 -- what a device notes of the first of these bytes
-abbrev pub first_write : List ℕ → Note
+abbrev pub first_write : List ℕ → DeviceNote
 first_write [] = Wrote 0
 first_write (byte ∷ bytes) = Wrote byte
 
@@ -39,7 +39,7 @@ AskedIn told told' asked (Err Input) = Passed told told' [] [] [] × OnlyReads t
 AskedIn told told' asked (Err fault) = ⊥
 
 -- Where the machine had not halted, the device is handed the state and then given the byte. After a fault only the device has changed.
-abbrev pub Ticked : State → State → Told → Told → Result Tick DeviceFault → Type 0
+abbrev pub Ticked : MachineState → MachineState → Told → Told → Result Tick DeviceFault → Type 0
 Ticked old new told told' (Ok Went) =
     (old.halt ≡ Running)
     × (input : Option ℕ) × (new ≡ cycle_of input old)

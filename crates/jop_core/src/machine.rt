@@ -56,10 +56,10 @@ pub struct Machine<const N: usize> {
 }
 
 impl<const N: usize> Model for Machine<N> {
-    ghost use Rattle.jop_core.specs.State.{State};
+    ghost use Rattle.jop_core.specs.State.{MachineState};
     ghost use Rattle.jop_core.specs.Meaning.{state_of, IsKept};
 
-    ghost Value = { State };
+    ghost Value = { MachineState };
 
     ghost view = { state_of };
 

@@ -6,8 +6,8 @@ use Rattle.image_file.specs.Linked.{LinkedContent, IsWord, IsName, IsFile, file_
 use Rattle.image_file.specs.Linked as file
 use Rattle.jopizer.specs.declared.fault.ImageFault.{ImageFault}
 use Rattle.jopizer.specs.declared.fault.ImageFault.TheVariants as faults
-use Rattle.jopizer.specs.Linked.{file_length, most_bytes, image_with, Parts, IsLinked, image_of}
-use Rattle.jopizer.specs.Images.{IsWrongIn, IsWrong}
+use Rattle.jopizer.specs.Linked.{file_length, most_image_bytes, image_with, Parts, IsLinked, image_of}
+use Rattle.jopizer.specs.Images.{IsWrongIn, IsWrongImage}
 use Rattle.jopizer.proofs.LengthLemmas.{length_is, files_short, files_few}
 use Rattle.jopizer.proofs.NameLemmas.{main_is_short}
 
@@ -22,7 +22,7 @@ pub record FitsFile (l : Parts) : Type 0 where
   pub count : IsWord (length l.files)
   pub files : AllByRecursion IsFile l.files
 
-fits_by : (image : LinkedContent) → file_length image ≤ most_bytes → IsWord (length image.words) × IsWord (length image.files) × AllByRecursion IsFile image.files
+fits_by : (image : LinkedContent) → file_length image ≤ most_image_bytes → IsWord (length image.words) × IsWord (length image.files) × AllByRecursion IsFile image.files
 fits_by image small =
     let long = length_is image in
     let few = files_few image.files in
@@ -31,18 +31,18 @@ fits_by image small =
 
 pub fits : (l : Parts) → IsLinked l → FitsFile l
 fits l is =
-    let by = fits_by (image_of l) (subst (λ (image : LinkedContent). file_length image ≤ most_bytes) (sym (image_is l is)) is.linked.small) in
+    let by = fits_by (image_of l) (subst (λ (image : LinkedContent). file_length image ≤ most_image_bytes) (sym (image_is l is)) is.linked.small) in
     record { name = main_is_short l.files l.main l.classes is.linked.program; words = by.0; count = by.1; files = by.2 }
 
 -- ---- what is told of a file
 
-is_wrong : (bytes : List ℕ) (image : LinkedContent) (f : ImageFault) → file.IsLinkedFile bytes image → IsWrongIn image f → IsWrong bytes f
+is_wrong : (bytes : List ℕ) (image : LinkedContent) (f : ImageFault) → file.IsLinkedFile bytes image → IsWrongIn image f → IsWrongImage bytes f
 is_wrong bytes image faults.Bad is h = absurd h
 is_wrong bytes image (faults.Link r) is h = (image, is, h)
 is_wrong bytes image (faults.Differs place kept linked) is h = (image, is, h)
 is_wrong bytes image faults.NoMemory is h = tt
 
-pub all_wrong : {X : Type 0} (bytes : List ℕ) (image : LinkedContent) (r : Result X ImageFault) → file.IsLinkedFile bytes image → IfErr r (IsWrongIn image) → IfErr r (IsWrong bytes)
+pub all_wrong : {X : Type 0} (bytes : List ℕ) (image : LinkedContent) (r : Result X ImageFault) → file.IsLinkedFile bytes image → IfErr r (IsWrongIn image) → IfErr r (IsWrongImage bytes)
 all_wrong bytes image (Ok x) is h = h
 all_wrong bytes image (Err f) is h = is_wrong bytes image f is h
 

@@ -24,7 +24,7 @@ use Rattle.jopizer.specs.declared.fault.ImageFault.{ImageFault}
 use Rattle.jopizer.specs.declared.fault.ImageFault.TheVariants as faults
 use Rattle.jopizer.specs.Linked.{file_length, image_with, AreLinked, Parts, IsLinked, image_of}
 use Rattle.jopizer.specs.Refused.{FailsInFile, PassesLimit, FileIsTooLong, IsLinkRefusal}
-use Rattle.jopizer.specs.Images.{DiffersFirst, IsWrongIn, IsWrong}
+use Rattle.jopizer.specs.Images.{DiffersFirst, IsWrongIn, IsWrongImage}
 use Rattle.jopizer.specs.Laws.{LinkedFilesAreNotRefused, LinkedImagesAreRead}
 use Rattle.jopizer.proofs.OneLemmas.{OneClass, same_classes, same_program}
 
@@ -124,7 +124,7 @@ module _ (law : OneClass) (images : OneImage) (bytes : List ℕ) (l : Parts) (is
   of_it : (image : LinkedContent) → file.IsLinkedFile bytes image → image ≡ image_of l
   of_it image h = images bytes image (image_of l) h of
 
-  pub nothing_wrong : (f : ImageFault) → IsWrong bytes f → f ≡ faults.NoMemory
+  pub nothing_wrong : (f : ImageFault) → IsWrongImage bytes f → f ≡ faults.NoMemory
   nothing_wrong faults.Bad h = absurd (h (image_of l) of)
   nothing_wrong (faults.Link r) h = absurd (is_linked r (subst (λ (image : LinkedContent). IsWrongIn image (faults.Link r)) (of_it h.0 h.1) h.2))
   nothing_wrong (faults.Differs place kept linked) h = absurd (is_same place kept linked (subst (λ (image : LinkedContent). DiffersFirst image place kept linked) (of_it h.0 h.1) h.2))

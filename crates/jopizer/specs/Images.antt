@@ -43,7 +43,7 @@ IsWrongIn image (Differs place kept linked) = DiffersFirst image place kept link
 IsWrongIn image NoMemory = Unit {0}
 
 -- the bytes are no file of an image, or of one in which this is wrong
-abbrev pub IsWrong : (bytes : List ℕ) → ImageFault → Type 0
-IsWrong bytes Bad = (image : LinkedContent) → ¬ file.IsLinkedFile bytes image
-IsWrong bytes NoMemory = Unit {0}
-IsWrong bytes fault = (image : LinkedContent) × file.IsLinkedFile bytes image × IsWrongIn image fault
+abbrev pub IsWrongImage : (bytes : List ℕ) → ImageFault → Type 0
+IsWrongImage bytes Bad = (image : LinkedContent) → ¬ file.IsLinkedFile bytes image
+IsWrongImage bytes NoMemory = Unit {0}
+IsWrongImage bytes fault = (image : LinkedContent) × file.IsLinkedFile bytes image × IsWrongIn image fault

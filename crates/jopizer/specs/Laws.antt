@@ -11,7 +11,7 @@ use Rattle.jopizer.specs.declared.fault.ImageFault.{ImageFault}
 use Rattle.jopizer.specs.declared.fault.ImageFault.TheVariants as faults
 use Rattle.jopizer.specs.Linked.{AreLinked, Parts, IsLinked, image_of}
 use Rattle.jopizer.specs.Refused.{FailsInFile, IsLinkRefusal}
-use Rattle.jopizer.specs.Images.{IsWrong}
+use Rattle.jopizer.specs.Images.{IsWrongImage}
 
 -- The file of an image is that of one linked program: what is read of the file that was written for what is linked is just that.
 abbrev pub OneLinked : Type 0
@@ -31,7 +31,8 @@ RefusalsAreOne =
 
 -- nothing is wrong with the file of the image of what is linked
 abbrev pub LinkedImagesAreRead : Type 0
-LinkedImagesAreRead = (bytes : List ℕ) (l : Parts) (f : ImageFault) → IsLinked l → file.IsLinkedFile bytes (image_of l) → IsWrong bytes f → f ≡ faults.NoMemory
+LinkedImagesAreRead = (bytes : List ℕ) (l : Parts) (f : ImageFault) → IsLinked l → file.IsLinkedFile bytes (image_of l) → IsWrongImage bytes f
+    → f ≡ faults.NoMemory
 
 -- a method in which a rule fails is one of a file: none fails in the core classes, nor in the class that is run
 abbrev pub MethodsAreOfFiles : Type 0

@@ -13,8 +13,8 @@ unfoldable pub file_length : LinkedContent → ℕ
 file_length image = length (bytes_of image)
 
 -- and how many it may have
-abbrev pub most_bytes : ℕ
-most_bytes = 16777216
+abbrev pub most_image_bytes : ℕ
+most_image_bytes = 16777216
 
 -- the image of these classes, with the files of which they came
 abbrev pub image_with : (files : List (List ℕ)) (main : List ℕ) → List ClassFile → LinkedContent
@@ -25,7 +25,7 @@ pub record AreLinked (files : List (List ℕ)) (main : List ℕ) (cs : List Clas
   pub program : IsProgramOf files main cs
   pub verified : IsVerified cs
   pub within : first_passed cs ≡ None
-  pub small : file_length (image_with files main cs) ≤ most_bytes
+  pub small : file_length (image_with files main cs) ≤ most_image_bytes
 
 -- classes, their image, and the files and the bytes of the main class's name of which they came
 pub record Parts : Type 0 where

@@ -11,7 +11,7 @@ use Rattle.program_resolution.specs.Linked.{number_of}
 use Rattle.bytecode_verifier.specs.Failure.{IsVerified, FailsFirst, broken_seen}
 use Rattle.jopizer.specs.declared.refusal.LinkRefusal.{LinkRefusal}
 use Rattle.jopizer.specs.declared.refusal.LinkRefusal.TheVariants.{Resolving, NotVerified, TooLarge, FileTooLarge, NoMemory}
-use Rattle.jopizer.specs.Linked.{file_length, most_bytes, image_with}
+use Rattle.jopizer.specs.Linked.{file_length, most_image_bytes, image_with}
 
 -- the files are resolved, and the first method in which a rule fails is this one of this file, counted as it stands there
 pub record FailsInFile (files : List (List ℕ)) (main : List ℕ) (file method pc : ℕ) (rule : _) : Type 0 where
@@ -31,8 +31,8 @@ pub record PassesLimit (files : List (List ℕ)) (main : List ℕ) (what : _) (c
 -- the file of this image has so many bytes, past the limit
 pub record FilePassesLimit (image : LinkedContent) (count limit : ℕ) : Type 0 where
   pub counted : count ≡ file_length image
-  pub limited : limit ≡ most_bytes
-  pub passed : most_bytes < count
+  pub limited : limit ≡ most_image_bytes
+  pub passed : most_image_bytes < count
 
 -- the files are resolved and verified, their image is within its limits, and its file isn't
 pub record FileIsTooLong (files : List (List ℕ)) (main : List ℕ) (count limit : ℕ) : Type 0 where

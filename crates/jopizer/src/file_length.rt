@@ -3,7 +3,7 @@ ghost use Rattle.std.specs.Prelude.{◌≡◌, ◌≤◌, length, IfSome, IfErr,
 ghost use Rattle.std.specs.List.{flat_map};
 ghost use Rattle.image_file.specs.Linked.{contents, file_bytes};
 ghost use Rattle.image_words.specs.Limits.{most_words};
-ghost use Rattle.jopizer.specs.Linked.{file_length as length_of, most_bytes};
+ghost use Rattle.jopizer.specs.Linked.{file_length as length_of, most_image_bytes};
 ghost use Rattle.jopizer.specs.Refused.{IsTooLongOr};
 
 use crate::refusal::LinkRefusal;
@@ -41,7 +41,7 @@ pub(crate) fn within_length(
     files: &[Vec<u8>],
 ) -> Result<(), LinkRefusal>
     requires { length words.now ≤ most_words }
-    ensures small { OnOk result (length_of (record { main = main.now; words = words.now; files = contents files.now }) ≤ most_bytes) }
+    ensures small { OnOk result (length_of (record { main = main.now; words = words.now; files = contents files.now }) ≤ most_image_bytes) }
     ensures refused { IfErr result (IsTooLongOr (record { main = main.now; words = words.now; files = contents files.now })) }
 {
     // No memory has more than 64 bits count.

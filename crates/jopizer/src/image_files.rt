@@ -3,7 +3,7 @@ ghost use Rattle.std.specs.Prelude.{◌≡◌, ◌↔◌, length, Err, slice_get
 ghost use Rattle.image_file.specs.Linked.{LinkedContent, IsWord};
 ghost use Rattle.image_file.specs.Linked as file;
 ghost use Rattle.jopizer.specs.Linked.{IsLinked, image_of};
-ghost use Rattle.jopizer.specs.Images.{IsDifference, IsDifferent, IsUnlinked, IsWrongIn, IsWrong};
+ghost use Rattle.jopizer.specs.Images.{IsDifference, IsDifferent, IsUnlinked, IsWrongIn, IsWrongImage};
 ghost use Rattle.jopizer.specs.declared.fault.ImageFault.TheVariants.{Bad};
 
 use crate::fault::ImageFault;
@@ -112,7 +112,7 @@ pub fn read_image(alloc: Global, bytes: &[u8]) -> Result<Linked, ImageFault>
     ensures image { IfOk result (λ linked. file.IsLinkedFile bytes.now (image_of linked)) }
     ensures linked { IfOk result IsLinked }
     ensures bad { result ≡ Err Bad ↔ ((image : LinkedContent) → ¬ file.IsLinkedFile bytes.now image) }
-    ensures wrong { IfErr result (IsWrong bytes.now) }
+    ensures wrong { IfErr result (IsWrongImage bytes.now) }
 {
     match read_linked(alloc, bytes) {
         Ok(image) => relinked(alloc, image),

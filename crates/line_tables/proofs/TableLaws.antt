@@ -4,11 +4,11 @@ use Rattle.std.specs.Prelude.{All, MatchOption, nat_le}
 use Rattle.std.proofs.lemmas.Bool.{cases_Bool, cases_lt, eqb-true, eq-eqb, le-leb, lt-leb, and_from, and_left, and_right}
 use Rattle.std.proofs.lemmas.List.Elements.{All-append, All-cons, All-nil, All-weaker}
 use Rattle.line_tables.specs.declared.starts.LineStart.{LineStart}
-use Rattle.line_tables.specs.Lines.{none, one, AreStarts, IsLineTable, starts_in, table_starts, TablesAreRead, nearer, nearest, IsNearest, NearestIsNearest}
+use Rattle.line_tables.specs.Lines.{none, one, AreLineStarts, IsLineTable, starts_in, table_starts, TablesAreRead, nearer, nearest, IsNearest, NearestIsNearest}
 
 -- ---- tables
 
-read : (bytes : List ℕ) (es : List LineStart) → AreStarts bytes es → (starts_in bytes ≡ es) × (length bytes ≡ 4 * length es)
+read : (bytes : List ℕ) (es : List LineStart) → AreLineStarts bytes es → (starts_in bytes ≡ es) × (length bytes ≡ 4 * length es)
 read _ _ none = (refl, refl)
 read _ _ (one {a} {b} {rest} {start} {line} {es} (h, l, a_is, start_is) (i, m, b_is, line_is) more) =
     let tail = read rest es more in
@@ -18,7 +18,7 @@ read _ _ (one {a} {b} {rest} {start} {line} {es} (h, l, a_is, start_is) (i, m, b
     ∙ ap (λ (ss : List LineStart). record { start = start; line = line } ∷ ss) tail.0 in
     (ap starts_in bytes ∙ head, ap length bytes ∙ omega (arith, tail.1))
 
-made : (n : ℕ) (bytes : List ℕ) → length bytes ≡ 4 * n → AreStarts bytes (starts_in bytes) × (length (starts_in bytes) ≡ n)
+made : (n : ℕ) (bytes : List ℕ) → length bytes ≡ 4 * n → AreLineStarts bytes (starts_in bytes) × (length (starts_in bytes) ≡ n)
 made n [] h = (none, omega arith)
 made n (a ∷ []) h = absurd (omega arith)
 made n (a ∷ b ∷ []) h = absurd (omega arith)

@@ -14,14 +14,14 @@ abbrev pub IsTwoBytes : List ℕ → ℕ → Type 0
 IsTwoBytes bytes n = (high : ℕ) × (low : ℕ) × (bytes ≡ high ∷ low ∷ []) × (n ≡ 256 * high + low)
 
 -- the bytes are such starts, one behind another
-pub data AreStarts : List ℕ → List LineStart → Type 0 where
-  none : AreStarts [] []
-  one : {a b rest : List ℕ} {start line : ℕ} {es : List LineStart} → IsTwoBytes a start → IsTwoBytes b line → AreStarts rest es
-      → AreStarts (a ++ b ++ rest) (record { start = start; line = line } ∷ es)
+pub data AreLineStarts : List ℕ → List LineStart → Type 0 where
+  none : AreLineStarts [] []
+  one : {a b rest : List ℕ} {start line : ℕ} {es : List LineStart} → IsTwoBytes a start → IsTwoBytes b line → AreLineStarts rest es
+      → AreLineStarts (a ++ b ++ rest) (record { start = start; line = line } ∷ es)
 
 -- a LineNumberTable: how many there are, and these
 abbrev pub IsLineTable : List ℕ → List LineStart → Type 0
-IsLineTable bytes es = (count : List ℕ) × (rest : List ℕ) × (bytes ≡ count ++ rest) × IsTwoBytes count (length es) × AreStarts rest es
+IsLineTable bytes es = (count : List ℕ) × (rest : List ℕ) × (bytes ≡ count ++ rest) × IsTwoBytes count (length es) × AreLineStarts rest es
 
 -- the starts that stand in bytes, by fours
 abbrev pub starts_in : List ℕ → List LineStart

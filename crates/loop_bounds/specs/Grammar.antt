@@ -7,21 +7,13 @@ use Rattle.loop_bounds.specs.Lines as lines
 
 -- ---- a line
 
--- empty, or a remark, which begins with #
-abbrev pub IsSilent : (line : List ℕ) → Type 0
-IsSilent line = lines.IsSilent line
-
--- the text is the decimal number n, which has 32 bits
-abbrev pub IsNumber : (text : List ℕ) → (n : ℕ) → Type 0
-IsNumber text n = lines.IsNumber text n
-
 -- `NAME PC loop<=N`
 abbrev pub IsLoopLine : (line : List ℕ) (b : LoopBound) → Type 0
 IsLoopLine line b = lines.IsBoundLine Iterations line b
 
 -- what a line says: nothing, or the bound of a loop
-abbrev pub Says : (line : List ℕ) → List LoopBound → Type 0
-Says line bs = lines.SaysBound Iterations line bs
+abbrev pub SaysLoopBound : (line : List ℕ) → List LoopBound → Type 0
+SaysLoopBound line bs = lines.SaysBound Iterations line bs
 
 -- of no line of the grammar
 abbrev pub IsMalformed : (line : List ℕ) → Type 0
@@ -46,8 +38,8 @@ abbrev pub IsTwice : (text : List ℕ) (number : ℕ) → Type 0
 IsTwice text number = lines.BoundsTwice Iterations text number
 
 -- the cause of a fault: it is that of the first line that is refused
-abbrev pub IsRefused : (text : List ℕ) → BoundsFault → Type 0
-IsRefused text fault = lines.CausesFault Iterations text fault
+abbrev pub AreBoundsRefused : (text : List ℕ) → BoundsFault → Type 0
+AreBoundsRefused text fault = lines.CausesFault Iterations text fault
 
 -- ---- a text of lengths
 

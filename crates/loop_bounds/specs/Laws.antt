@@ -3,7 +3,7 @@ use Rattle.std.specs.Prelude.{◌≡◌, ℕ, List}
 use Rattle.loop_bounds.specs.declared.BoundsFault.{BoundsFault}
 use Rattle.loop_bounds.specs.declared.BoundsFault.TheVariants.{NoMemory}
 use Rattle.loop_bounds.specs.Bounds.{LoopBound}
-use Rattle.loop_bounds.specs.Grammar.{IsRead, IsRefused, IsReadLengths, IsRefusedLengths}
+use Rattle.loop_bounds.specs.Grammar.{IsRead, AreBoundsRefused, IsReadLengths, IsRefusedLengths}
 
 -- A text gives one list of bounds.
 abbrev pub GivesOne : Type 0
@@ -11,7 +11,7 @@ GivesOne = (text : List ℕ) (a b : List LoopBound) → IsRead text a → IsRead
 
 -- No line of a text that gives bounds is refused.
 abbrev pub ReadIsNotRefused : Type 0
-ReadIsNotRefused = (text : List ℕ) (bs : List LoopBound) (fault : BoundsFault) → IsRead text bs → IsRefused text fault → fault ≡ NoMemory
+ReadIsNotRefused = (text : List ℕ) (bs : List LoopBound) (fault : BoundsFault) → IsRead text bs → AreBoundsRefused text fault → fault ≡ NoMemory
 
 -- A text gives one list of lengths.
 abbrev pub LengthsGiveOne : Type 0

@@ -15,7 +15,7 @@ mod site;
 ghost use Rattle.std.specs.Prelude.{◌≡◌, ◌++◌, [], ◌∷◌, None, OnOk, IfOk, IfErr, ◌≤◌, length};
 ghost use Rattle.base.specs.Sizes.{longest_file};
 ghost use Rattle.loop_bounds.specs.Bounds.{bound_in};
-ghost use Rattle.loop_bounds.specs.Grammar.{IsRead, IsRefused, IsReadLengths, IsRefusedLengths};
+ghost use Rattle.loop_bounds.specs.Grammar.{IsRead, AreBoundsRefused, IsReadLengths, IsRefusedLengths};
 ghost use Rattle.loop_bounds.specs.Lines.{GivesBounds, CausesFault};
 ghost use Rattle.loop_bounds.specs.Meaning.{bound_at};
 
@@ -70,7 +70,7 @@ impl Model for Bounds {
 pub fn read_bounds(alloc: Global, text: &[u8]) -> Result<Bounds, BoundsFault>
     requires { length text.now ≤ longest_file }
     ensures read { IfOk result (IsRead text.now) }
-    ensures refused { IfErr result (IsRefused text.now) }
+    ensures refused { IfErr result (AreBoundsRefused text.now) }
 {
     read_text(alloc, Quantity::Iterations, text)
 }

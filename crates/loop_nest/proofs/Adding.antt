@@ -6,7 +6,7 @@ use Rattle.std.proofs.lemmas.List.{length-map, get_or-map, get_or_push, length_p
 use Rattle.std.proofs.lemmas.List.Elements.{All-get_or, All-from_get_or, Contains-append_left, Contains-push, Contains-push_cases, Contains-get_or}
 use Rattle.loop_nest.specs.Digraph.{Digraph, IsDigraph}
 use Rattle.loop_nest.specs.Walks.{IsHeader, IsMember}
-use Rattle.loop_nest.specs.Entered.{AreReached}
+use Rattle.loop_nest.specs.Entered.{AreAllReached}
 use Rattle.loop_nest.specs.Nest.{NaturalLoop, headers_of, outers_of, header_at, members_at, outer_at, IsLoopOf, IsOutermost, IsNextOuter, IsNest}
 use Rattle.loop_nest.specs.Nesting.{IsInnermost, HaveOuters, every_node, IsNesting, KeepsOutline, HaveMembersBelow, IsToCome, IsAddedOrNot, IsAdding}
 use Rattle.loop_nest.proofs.Nested.{member_within}
@@ -62,7 +62,7 @@ module _ (x m : ℕ) (ls : List NaturalLoop) (l : NaturalLoop) (lt : m < length 
       ap (λ (yss : List (List ℕ)). get_or yss n []) (map-set (λ (y : NaturalLoop). y.members) ls m (record l { members = l.members ++ x ∷ [] }))
       ∙ get_or-set_other (map (λ (y : NaturalLoop). y.members) ls) m n (l.members ++ x ∷ []) [] other
 
-module _ (g : Digraph) (wf : IsDigraph g) (reached : AreReached g) (x : ℕ) (old : List NaturalLoop) where
+module _ (g : Digraph) (wf : IsDigraph g) (reached : AreAllReached g) (x : ℕ) (old : List NaturalLoop) where
   pub adding_start : (o : Option ℕ) → IsInnermost g every_node (headers_of old) x o → IsAdding g x old old o
   adding_start None h = record {
     outline = record { headers = refl; outers = refl };

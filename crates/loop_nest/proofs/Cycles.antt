@@ -3,7 +3,7 @@ use Rattle.std.proofs.Common.{◌≡◌, ◌≢◌, ℕ, ◌⊎◌, List, [], �
 use Rattle.std.proofs.lemmas.Bool.{cases_eq}
 use Rattle.lists.specs.Members.{at_head, in_tail, cons_cases, nil_contains}
 use Rattle.loop_nest.specs.Digraph.{Digraph, Edge}
-use Rattle.loop_nest.specs.Walks.{Walk, Dominates, IsBackEdge, Takes}
+use Rattle.loop_nest.specs.Walks.{Walk, Dominates, IsBackEdge, TakesEdge}
 use Rattle.loop_nest.specs.Walks.Walk.{stay, along}
 use Rattle.loop_nest.specs.Reduction.{renamed}
 use Rattle.loop_nest.specs.Classes.{AreMerged}
@@ -12,13 +12,13 @@ use Rattle.loop_nest.proofs.Around.{end_visited}
 use Rattle.loop_nest.proofs.Classes.{class_cases, enters_at_name, name_dominates, start_visited}
 
 abbrev TakesBackEdge : Digraph → List ℕ → Type 0
-TakesBackEdge g ns = (a h : ℕ) × Takes ns a h × IsBackEdge g a h
+TakesBackEdge g ns = (a h : ℕ) × TakesEdge ns a h × IsBackEdge g a h
 
 -- the walk takes an edge from the class x to the class p
 record Crosses (g : Digraph) (c : ℕ → ℕ) (x p : ℕ) (ns : List ℕ) : Type 0 where
   source : ℕ
   target : ℕ
-  taken : Takes ns source target
+  taken : TakesEdge ns source target
   edge : Edge g source target
   at_x : c source ≡ x
   at_p : c target ≡ p
@@ -27,7 +27,7 @@ starts : {g : Digraph} {u v : ℕ} {ns : List ℕ} → Walk g u v ns → (tail :
 starts (stay {u}) = ([], refl)
 starts (along {u} {v} {w} {ns} e t) = (ns, refl)
 
-takes_first : {g : Digraph} {v w : ℕ} {ns : List ℕ} (u : ℕ) → Walk g v w ns → Takes (u ∷ ns) u v
+takes_first : {g : Digraph} {v w : ℕ} {ns : List ℕ} (u : ℕ) → Walk g v w ns → TakesEdge (u ∷ ns) u v
 takes_first u t = let s = starts t in ([], s.0, ap (λ ms. u ∷ ms) s.1)
 
 later : {g : Digraph} {c : ℕ → ℕ} {x p : ℕ} {ns : List ℕ} (u : ℕ) → Crosses g c x p ns → Crosses g c x p (u ∷ ns)

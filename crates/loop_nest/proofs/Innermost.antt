@@ -6,7 +6,7 @@ use Rattle.std.proofs.lemmas.List.{get_or-set_same, get_or-set_other, get_or_pas
 use Rattle.std.proofs.lemmas.List.Elements.{All-get_or}
 use Rattle.loop_nest.specs.Digraph.{Digraph, IsDigraph}
 use Rattle.loop_nest.specs.Walks.{Dominates, IsHeader, IsMember}
-use Rattle.loop_nest.specs.Entered.{AreReached}
+use Rattle.loop_nest.specs.Entered.{AreAllReached}
 use Rattle.loop_nest.specs.Search.{mark_at, AreUnmarked, IsMarkedWith}
 use Rattle.loop_nest.specs.Order.{AreDominatorsFirst}
 use Rattle.loop_nest.specs.Nesting.{IsInnermost, HaveOuters, AreInnermost, every_node}
@@ -26,7 +26,7 @@ pub innermost_of_more : (g : Digraph) (among among' : ℕ → Type 0) (hs : List
 innermost_of_more g among among' hs x None more none h = λ k a m. h k (none k a m) m
 innermost_of_more g among among' hs x (Some n) more none h = (h.0, more (get_or hs n 0) h.1, h.2, λ k a m. h.3 k (none k a m) m)
 
-module _ (g : Digraph) (wf : IsDigraph g) (reached : AreReached g) where
+module _ (g : Digraph) (wf : IsDigraph g) (reached : AreAllReached g) where
   -- headers in each other's loops are the same
   pub one_header : (h k : ℕ) → IsMember g h k → IsMember g k h → h ≡ k
   one_header h k in_h in_k = dominates_both h k (reached h (member_within k h wf in_k)) (header_dominates_members g h k in_h) (header_dominates_members g k h in_k)

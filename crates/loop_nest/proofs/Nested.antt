@@ -9,7 +9,7 @@ use Rattle.loop_nest.specs.Digraph.{Digraph, IsDigraph}
 use Rattle.loop_nest.specs.Walks.{Dominates, IsMember, IsReachable}
 use Rattle.loop_nest.specs.Reduction.{Leaves}
 use Rattle.loop_nest.specs.Classes.{NoneCanMerge}
-use Rattle.loop_nest.specs.Entered.{class_of, names, edge_at, IsClassList, AreReached, AreBackEdgesMarked, AreBackEdgesTold, AreBackEdges}
+use Rattle.loop_nest.specs.Entered.{class_of, names, edge_at, IsClassList, AreAllReached, AreBackEdgesMarked, AreBackEdgesTold, AreBackEdges}
 use Rattle.loop_nest.specs.Nest.{IsNest}
 use Rattle.loop_nest.proofs.Around.{not_around}
 use Rattle.loop_nest.proofs.Nesting.{first_of}
@@ -56,7 +56,7 @@ told_of g class back wf h none alone marks =
     let nodes : names class ≡ 0 ∷ [] = alone in
     let P : ℕ → Type 0 = λ n. filter (λ a. eqb (class_of class a) a) (range_with_len 0 n) ≡ 0 ∷ [] in
     let names_are = subst P h.long nodes in
-    let reached : AreReached g = reducible_is_reached g wf (leaves_of [] h.merged none names_are) in
+    let reached : AreAllReached g = reducible_is_reached g wf (leaves_of [] h.merged none names_are) in
     record {
       long = marks.long;
       each = λ i lt inner.

@@ -2,7 +2,7 @@
 use Rattle.std.specs.Prelude.{◌≡◌, ◌≢◌, ℕ, ◌+◌, ◌-◌, ◌<◌, List, [], ◌∷◌, length, map, All, Contains, slice_index}
 use Rattle.std.specs.List.Sorted.{IsStrictlyIncreasing}
 use Rattle.loop_nest.specs.Digraph.{Digraph, sources_of, targets_of}
-use Rattle.loop_nest.specs.Entered.{AreReached}
+use Rattle.loop_nest.specs.Entered.{AreAllReached}
 
 -- v is the one successor of u, and u the one predecessor of v, which is not node 0
 pub record IsLink (g : Digraph) (u v : ℕ) : Type 0 where
@@ -34,7 +34,7 @@ pub record AreBlocks (g : Digraph) (bs : List (List ℕ)) : Type 0 where
   pub rising : IsStrictlyIncreasing (firsts_of bs)
   pub within : All (λ u. u < g.nodes) (firsts_of bs)
   pub complete : (u : ℕ) → u < g.nodes → ¬ IsLater g u → Contains (firsts_of bs) u
-  pub each : AreReached g → (u : ℕ) → u < g.nodes → (ns : List ℕ) × Contains bs ns × Contains ns u
+  pub each : AreAllReached g → (u : ℕ) → u < g.nodes → (ns : List ℕ) × Contains bs ns × Contains ns u
 
 -- a chain from one node to another, of nodes of g
 pub record IsChainFrom (g : Digraph) (first last : ℕ) (ns : List ℕ) : Type 0 where

@@ -61,8 +61,8 @@ pub record IsClassList (g : Digraph) (class : List ℕ) : Type 0 where
   pub merged : AreMerged g (class_of class)
 
 -- every node is reached
-abbrev pub AreReached : Digraph → Type 0
-AreReached g = (u : ℕ) → u < g.nodes → IsReachable g u
+abbrev pub AreAllReached : Digraph → Type 0
+AreAllReached g = (u : ℕ) → u < g.nodes → IsReachable g u
 
 -- edge i of a list
 abbrev pub edge_at : List (ℕ × ℕ) → ℕ → ℕ × ℕ
@@ -71,7 +71,7 @@ edge_at es i = slice_index_or es i (0, 0)
 -- for each edge, whether it is a back edge, where its target is merged into another node
 pub record AreMarkedBy (g : Digraph) (c : ℕ → ℕ) (back : List Bool) : Type 0 where
   pub long : length back ≡ length g.edges
-  pub each : AreReached g → (i : ℕ) → i < length g.edges → c (edge_at g.edges i).1 ≢ (edge_at g.edges i).1
+  pub each : AreAllReached g → (i : ℕ) → i < length g.edges → c (edge_at g.edges i).1 ≢ (edge_at g.edges i).1
       → (slice_index_or back i false ≡ true) ↔ IsBackEdge g (edge_at g.edges i).0 (edge_at g.edges i).1
 
 abbrev pub AreBackEdgesMarked : Digraph → List ℕ → List Bool → Type 0

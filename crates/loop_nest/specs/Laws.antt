@@ -1,7 +1,7 @@
 -- What holds of every graph, of its reduction and of its loops.
 use Rattle.std.specs.Prelude.{◌≡◌, ◌≢◌, ℕ, ◌<◌, ◌⊎◌, List, ◌∷◌, Contains}
 use Rattle.loop_nest.specs.Digraph.{Digraph, Edge, IsDigraph}
-use Rattle.loop_nest.specs.Walks.{Walk, Dominates, LeadsAround, IsReachable, IsBackEdge, IsHeader, IsMember, IsEntering, Takes}
+use Rattle.loop_nest.specs.Walks.{Walk, Dominates, LeadsAround, IsReachable, IsBackEdge, IsHeader, IsMember, IsEntering, TakesEdge}
 use Rattle.loop_nest.specs.Reduction.{Leaves, IsReducible}
 use Rattle.loop_nest.specs.Parts.{IsReachedPart}
 
@@ -16,7 +16,7 @@ ReducibleIsReached = (g : Digraph) → IsDigraph g → IsReducible g → (u : �
 -- in a reducible graph every cycle takes a back edge, so that the graph without back edges has no cycle
 abbrev pub CyclesTakeBackEdges : Type 0
 CyclesTakeBackEdges =
-    (g : Digraph) → IsDigraph g → IsReducible g → (u v : ℕ) (ns : List ℕ) → Edge g u v → Walk g v u ns → (a h : ℕ) × Takes (u ∷ ns) a h × IsBackEdge g a h
+    (g : Digraph) → IsDigraph g → IsReducible g → (u v : ℕ) (ns : List ℕ) → Edge g u v → Walk g v u ns → (a h : ℕ) × TakesEdge (u ∷ ns) a h × IsBackEdge g a h
 
 -- a header dominates the members of its loop
 abbrev pub HeaderDominatesMembers : Type 0

@@ -54,5 +54,5 @@ KeepsBound g h bound ns =
     (before in_loop after : List ℕ) → ns ≡ before ++ in_loop ++ after → All (IsMember g h) in_loop → back_edges_to h in_loop ≤ bound
 
 -- the walk takes the edge from u to v
-abbrev pub Takes : List ℕ → ℕ → ℕ → Type 0
-Takes ns u v = (before after : List ℕ) × (ns ≡ before ++ u ∷ v ∷ after)
+abbrev pub TakesEdge : List ℕ → ℕ → ℕ → Type 0
+TakesEdge ns u v = (before after : List ℕ) × (ns ≡ before ++ u ∷ v ∷ after)

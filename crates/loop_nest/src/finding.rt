@@ -2,7 +2,7 @@
 ghost use Rattle.std.specs.Prelude.{◌≡◌, ◌+◌, ◌^◌, ◌<◌, ◌↔◌, length, IfOk, OnOk};
 ghost use Rattle.std.specs.List.Sorted.{IsStrictlyIncreasing};
 ghost use Rattle.loop_nest.specs.Digraph.{IsDigraph};
-ghost use Rattle.loop_nest.specs.Entered.{AreReached, AreBackEdgesTold, AreBackEdges};
+ghost use Rattle.loop_nest.specs.Entered.{AreAllReached, AreBackEdgesTold, AreBackEdges};
 ghost use Rattle.loop_nest.specs.Nest.{headers_of, outers_of, IsNest};
 ghost use Rattle.loop_nest.specs.Nesting.{AreHeadersBelow, AreHeaderFlags, IsInnermost, HaveOuters, every_node, IsNesting, KeepsOutline, HaveMembersBelow};
 
@@ -74,7 +74,7 @@ fn innermost_loops(
     loops: &mut [Loop],
 ) -> Result<Vec<Option<u32>>, AllocError>
     requires back_edges { AreBackEdges g.now back_edges.now }
-    requires reached { AreReached g.now }
+    requires reached { AreAllReached g.now }
     requires flags { AreHeaderFlags g.now flags.now }
     requires headers { AreHeadersBelow g.now g.now.nodes loops.old numbers.now }
     ensures { IfOk result (λ marks. IsNesting g.now loops.new marks.items) }
@@ -102,7 +102,7 @@ fn nesting(
     back_edges: &[(u32, u32)],
 ) -> Result<(Vec<Loop>, Vec<Option<u32>>), AllocError>
     requires back_edges { AreBackEdges g.now back_edges.now }
-    requires reached { AreReached g.now }
+    requires reached { AreAllReached g.now }
     ensures { IfOk result (λ r. IsNesting g.now r.0.items r.1.items) }
 {
     let flags = header_flags(alloc, g, back_edges)?;
@@ -119,7 +119,7 @@ fn add_to_loops(
     loops: &mut [Loop],
 ) -> Result<(), AllocError>
     requires valid { IsDigraph g.now }
-    requires reached { AreReached g.now }
+    requires reached { AreAllReached g.now }
     requires inside { x < g.now.nodes }
     requires rising { IsStrictlyIncreasing (headers_of loops.old) }
     requires innermost { IsInnermost g.now every_node (headers_of loops.old) x innermost }
@@ -139,7 +139,7 @@ fn add_to_loops(
 /// Adds to each loop its members, rising.
 fn add_members(g: &Graph, innermost: &[Option<u32>], loops: &mut [Loop]) -> Result<(), AllocError>
     requires valid { IsDigraph g.now }
-    requires reached { AreReached g.now }
+    requires reached { AreAllReached g.now }
     requires nesting { IsNesting g.now loops.old innermost.now }
     ensures { OnOk result (IsNest g.now loops.new) }
 {
@@ -153,7 +153,7 @@ fn add_members(g: &Graph, innermost: &[Option<u32>], loops: &mut [Loop]) -> Resu
 pub fn nest_by(alloc: Global, g: &Graph, back_edges: &[(u32, u32)]) -> Result<Nest, AllocError>
     requires valid { IsDigraph g.now }
     requires back_edges { AreBackEdges g.now back_edges.now }
-    requires reached { AreReached g.now }
+    requires reached { AreAllReached g.now }
     ensures { IfOk result (IsNest g.now) }
 {
     if back_edges.is_empty() {

@@ -3,7 +3,7 @@ use Rattle.std.specs.Prelude.{◌≡◌, ◌≢◌, ℕ, ℤ, pos, ◌^◌, ◌<
 use Rattle.bytecode_model.specs.Program.{Program}
 use Rattle.bytecode_model.specs.Rows as rows
 use Rattle.loop_nest.specs.Digraph.{Digraph, Edge}
-use Rattle.loop_nest.specs.Walks.{Walk, IsMember, IsBackEdge, Takes}
+use Rattle.loop_nest.specs.Walks.{Walk, IsMember, IsBackEdge, TakesEdge}
 use Rattle.method_flow.specs.Nodes.{At, number_of}
 use Rattle.code_lines.specs.Lines.{IsLine, Writes}
 use Rattle.loop_rules.specs.Tests.{Constants, Pushing, PushesLimit, IsTest, LeavesLoop}
@@ -47,4 +47,4 @@ pub record IsCounted (P : Program) (constants : Constants) (m : ℕ) (g : Digrap
 
 -- as in a reducible graph, every cycle takes a back edge
 abbrev pub EachCycleIsALoop : Digraph → Type 0
-EachCycleIsALoop g = (u v : ℕ) (ns : List ℕ) → Edge g u v → Walk g v u ns → (a h : ℕ) × Takes (u ∷ ns) a h × IsBackEdge g a h
+EachCycleIsALoop g = (u v : ℕ) (ns : List ℕ) → Edge g u v → Walk g v u ns → (a h : ℕ) × TakesEdge (u ∷ ns) a h × IsBackEdge g a h

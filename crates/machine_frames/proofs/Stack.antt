@@ -21,7 +21,7 @@ read_between front left middle right behind i k is within =
 
 -- ---- the words of the stack
 
-module _ (n : ℕ) (m : machine.State) (has : HasStack n m) where
+module _ (n : ℕ) (m : machine.MachineState) (has : HasStack n m) where
   chip_count : length (take (m.sp + 1 - STACK) (drop STACK m.stack)) ≡ m.sp + 1 - STACK
   chip_count = length-take (m.sp + 1 - STACK) (drop STACK m.stack) ∙ ap (λ k. min (m.sp + 1 - STACK) k) (length-drop STACK m.stack ∙ ap (λ k. k - STACK) has.count) ∙ omega (arith, has.low, has.high)
 

@@ -21,7 +21,7 @@ use Rattle.bytecode_model.specs.WellFormed as formed
 use Rattle.image_facts.specs.Places.{Places, object_place}
 use Rattle.image_facts.specs.Says.{IsCode}
 use Rattle.machine_stands.specs.Frames.{stacked}
-use Rattle.machine_stands.specs.StandsFor.{AreLeft, IsAt, IsAtInstruction, IsAtRaise, stack_words}
+use Rattle.machine_stands.specs.StandsFor.{AreLeftWords, IsAt, IsAtInstruction, IsAtRaise, stack_words}
 use Rattle.machine_stands.specs.Counted.{FramesHaveRoom, FiveAreSaved}
 use Rattle.machine_frames.specs.Frames.{HasStack}
 use Rattle.machine_frames.specs.Shows.{Shows, top_frame}
@@ -33,7 +33,7 @@ pub record FrameLaws : Type 0 where
   pub saved : FiveAreSaved
 
 -- the words of the stack, some of which are over the memory's end
-stack_least : (m : machine.State) (n : ℕ) → length m.stack ≡ n → length (stack_words m) ≡ min (m.sp + 1 - STACK) (n - STACK) + 2
+stack_least : (m : machine.MachineState) (n : ℕ) → length m.stack ≡ n → length (stack_words m) ≡ min (m.sp + 1 - STACK) (n - STACK) + 2
 stack_least m n count =
     length-append (take (m.sp + 1 - STACK) (drop STACK m.stack)) (m.b ∷ m.a ∷ []) ∙ ap (λ k. k + 2) (length-take (m.sp + 1 - STACK) (drop STACK m.stack)
     ∙ ap (λ k. min (m.sp + 1 - STACK) k) (length-drop STACK m.stack ∙ ap (λ k. k - STACK) count))
@@ -42,7 +42,7 @@ whole : {E : Type 0} (r : Result Instr E) (i : Instr) → as_instr r ≡ Some i 
 whole (Ok j) i e = let same : j ≡ i = cc in ap Ok same
 whole (Err f) i e = absurd (cc)
 
-module _ (laws : FrameLaws) (methods : List CodedMethod) (m : machine.State) (P : Program) (pl : Places) (n size : ℕ) (s : State) (h : Shows methods m P pl n size s) where
+module _ (laws : FrameLaws) (methods : List CodedMethod) (m : machine.MachineState) (P : Program) (pl : Places) (n size : ℕ) (s : State) (h : Shows methods m P pl n size s) where
   pub formed_frames : formed.AreFrames P (length s.objects) (h.stands.top ∷ h.stands.callers)
   formed_frames = subst (λ fs. formed.AreFrames P (length s.objects) fs) h.stands.frames h.formed.frames
 
@@ -67,7 +67,7 @@ module _ (laws : FrameLaws) (methods : List CodedMethod) (m : machine.State) (P 
   all_count = ap length h.stands.stack ∙ length-append (stacked (h.stands.words ∷ h.stands.below)) h.stands.left
 
   -- the top frame's operands and what is left are at most as many as it may have
-  top_depth : (mode : Ending) → s.mode ≡ mode → AreLeft mode h.stands.body h.stands.left → formed.ModeFits (length s.objects) (h.stands.top ∷ h.stands.callers) mode
+  top_depth : (mode : Ending) → s.mode ≡ mode → AreLeftWords mode h.stands.body h.stands.left → formed.ModeFits (length s.objects) (h.stands.top ∷ h.stands.callers) mode
       → sum_by value_words h.stands.top.operands + length h.stands.left ≤ h.stands.body.max_stack
   top_depth Running e left fits = omega (arith, formed_top.depth, ap length left)
   top_depth Ended e left fits = omega (arith, formed_top.depth, ap length left)
@@ -100,7 +100,7 @@ module _ (laws : FrameLaws) (methods : List CodedMethod) (m : machine.State) (P 
   -- SP, VP and the operands of a state that runs
   pub operands_over : s.mode ≡ Running → m.sp ≡ m.vp + h.stands.body.max_locals + 2 + sum_by value_words h.stands.top.operands
   operands_over running =
-      let left : h.stands.left ≡ [] = subst (λ md. AreLeft md h.stands.body h.stands.left) running h.stands.are_left in
+      let left : h.stands.left ≡ [] = subst (λ md. AreLeftWords md h.stands.body h.stands.left) running h.stands.are_left in
       omega (arith, stack_count n m has_stack, all_count, top_count, ap length left, h.stands.vp, has_stack.low)
 
   pub pc_running : s.mode ≡ Running → m.jpc ≡ h.stands.top.pc + 1

@@ -11,7 +11,7 @@ use Rattle.bytecode_model.specs.State.{Frame, State}
 use Rattle.bytecode_model.specs.Program.{Program, Body, body_of, instr_at}
 use Rattle.bytecode_model.specs.WellFormed as formed
 use Rattle.image_facts.specs.Places.{Places, object_place, pool_of}
-use Rattle.machine_stands.specs.Frames.{FrameWords, AreFrames, Saves, stacked, sp_over, vp_over}
+use Rattle.machine_stands.specs.Frames.{FrameWords, AreWordsOfFrames, Saves, stacked, sp_over, vp_over}
 use Rattle.machine_stands.specs.StandsFor.{stack_words}
 use Rattle.machine_frames.specs.declared.frames.FramePlace.{FramePlace}
 use Rattle.machine_frames.specs.Frames.{HasStack, IsFrameAt}
@@ -23,25 +23,25 @@ use Rattle.machine_frames.proofs.Standing.{FrameLaws, formed_frames, has_stack}
 
 -- ---- how many there are
 
-short : FrameLaws → (P : Program) (pl : Places) (place : ℕ → ℕ) (fs : List Frame) (ws : List FrameWords) → AreFrames P pl place fs ws → length fs ≤ length (stacked ws)
+short : FrameLaws → (P : Program) (pl : Places) (place : ℕ → ℕ) (fs : List Frame) (ws : List FrameWords) → AreWordsOfFrames P pl place fs ws → length fs ≤ length (stacked ws)
 short laws P pl place [] ws h = omega arith
 short laws P pl place (f ∷ fs) [] h = absurd h
 short laws P pl place (f ∷ fs) (w ∷ ws) h =
     omega (arith, short laws P pl place fs ws h.1, laws.saved P pl fs ws w.saved h.0.saved, length-append (stacked ws) (w.locals ++ (w.saved ++ reverse w.operands)), length-append w.locals (w.saved ++ reverse w.operands), length-append w.saved (reverse w.operands))
 
 -- no frame takes no word
-some_words : FrameLaws → (P : Program) (pl : Places) (place : ℕ → ℕ) (f : Frame) (fs : List Frame) (w : FrameWords) (ws : List FrameWords) → AreFrames P pl place (f ∷ fs) (w ∷ ws) → length (stacked ws) + 5 ≤ length (stacked (w ∷ ws))
+some_words : FrameLaws → (P : Program) (pl : Places) (place : ℕ → ℕ) (f : Frame) (fs : List Frame) (w : FrameWords) (ws : List FrameWords) → AreWordsOfFrames P pl place (f ∷ fs) (w ∷ ws) → length (stacked ws) + 5 ≤ length (stacked (w ∷ ws))
 some_words laws P pl place f fs w ws h =
     omega (arith, laws.saved P pl fs ws w.saved h.0.saved, length-append (stacked ws) (w.locals ++ (w.saved ++ reverse w.operands)), length-append w.locals (w.saved ++ reverse w.operands), length-append w.saved (reverse w.operands))
 
 -- ---- the frame at a place
 
 -- where the caller of that frame stands, which saves words from another place on
-pub record IsCalled (P : Program) (pl : Places) (m : machine.State) (s : State) (at : FramePlace) (number saved : ℕ) : Type 0 where
+pub record IsCalled (P : Program) (pl : Places) (m : machine.MachineState) (s : State) (at : FramePlace) (number saved : ℕ) : Type 0 where
   pub next : (to : FramePlace) → to.locals ≡ get_or (stack_words m) (saved + 2 - STACK) 0 → to.method ≡ get_or (stack_words m) (saved + 4 - STACK) 0
       → IsFrameAt P pl m s to (number + 1) × (to.locals < at.locals)
 
-module _ (laws : FrameLaws) (P : Program) (pl : Places) (m : machine.State) (s : State) (at : FramePlace) (number : ℕ) (f : IsFrameAt P pl m s at number) where
+module _ (laws : FrameLaws) (P : Program) (pl : Places) (m : machine.MachineState) (s : State) (at : FramePlace) (number : ℕ) (f : IsFrameAt P pl m s at number) where
   -- its method
   pub body_at : (b : Body) × (body_of P f.frame.method ≡ Some b) × (length f.words.locals ≡ b.max_locals)
   body_at =
@@ -63,7 +63,7 @@ module _ (laws : FrameLaws) (P : Program) (pl : Places) (m : machine.State) (s :
   pub few : (n : ℕ) → HasStack n m → number ≤ length s.frames
   few n has = omega (arith, f.nth)
 
-  called : (callers : List Frame) (below : List FrameWords) → AreFrames P pl (object_place P pl s.objects) callers below → formed.AreFrames P (length s.objects) callers → Saves P pl callers below f.words.saved
+  called : (callers : List Frame) (below : List FrameWords) → AreWordsOfFrames P pl (object_place P pl s.objects) callers below → formed.AreFrames P (length s.objects) callers → Saves P pl callers below f.words.saved
       → stack_words m ≡ stacked (f.words ∷ below) ++ f.above → at.locals ≡ vp_over below → number + length callers ≡ length s.frames → STACK < at.locals → (saved : ℕ) → saved ≡ at.locals + length f.words.locals
       → IsCalled P pl m s at number saved
   called [] [] are formed saves stack locals nth more saved is = absurd (omega (arith, locals, more))
@@ -100,7 +100,7 @@ module _ (laws : FrameLaws) (P : Program) (pl : Places) (m : machine.State) (s :
   pub is_called : STACK < at.locals → (saved : ℕ) → saved ≡ at.locals + length f.words.locals → IsCalled P pl m s at number saved
   is_called more saved is = called f.callers f.below f.are_frames.1 f.formed.1 f.are_frames.0.saved f.stack f.locals_at f.nth more saved is
 
-  none_called : (callers : List Frame) (below : List FrameWords) → AreFrames P pl (object_place P pl s.objects) callers below → at.locals ≡ vp_over below → at.locals ≤ STACK → length callers ≡ 0
+  none_called : (callers : List Frame) (below : List FrameWords) → AreWordsOfFrames P pl (object_place P pl s.objects) callers below → at.locals ≡ vp_over below → at.locals ≤ STACK → length callers ≡ 0
   none_called [] below are locals first = refl
   none_called (c ∷ cs) [] are locals first = absurd are
   none_called (c ∷ cs) (w ∷ ws) are locals first = absurd (omega (arith, locals, first, some_words laws P pl (object_place P pl s.objects) c cs w ws are))
@@ -111,7 +111,7 @@ module _ (laws : FrameLaws) (P : Program) (pl : Places) (m : machine.State) (s :
 
 -- ---- the top frame
 
-module _ (laws : FrameLaws) (methods : List CodedMethod) (m : machine.State) (P : Program) (pl : Places) (n size : ℕ) (s : State) (h : Shows methods m P pl n size s) where
+module _ (laws : FrameLaws) (methods : List CodedMethod) (m : machine.MachineState) (P : Program) (pl : Places) (n size : ℕ) (s : State) (h : Shows methods m P pl n size s) where
   pub top_at : (at : FramePlace) → at.locals ≡ m.vp → at.method ≡ slice_index m.stack METHOD → IsFrameAt P pl m s at 1
   top_at at locals method =
       let st = h.stands in

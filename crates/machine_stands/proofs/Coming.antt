@@ -55,7 +55,7 @@ left_behind true (answer ∷ answers) more found = refl
 
 next_followed : (more : List (Option ℕ)) (c : Scene) → (asks_input c.state ≡ true → c.answers ≢ []) → next_scene (followed_by more c) ≡ followed_by more (next_scene c)
 next_followed more c found =
-    let of : machine.State → List (Option ℕ) → Scene = λ state answers. record { state = state; answers = answers; output = (next_scene c).output } in
+    let of : machine.MachineState → List (Option ℕ) → Scene = λ state answers. record { state = state; answers = answers; output = (next_scene c).output } in
     ap (λ answer. of (cycle_of answer c.state) (left_over (asks_input c.state) (c.answers ++ more))) (given_first (asks_input c.state) c.answers more found)
     ∙ ap (of (next_scene c).state) (left_behind (asks_input c.state) c.answers more found)
 
@@ -73,7 +73,7 @@ uses_up laws (suc k) c h more =
 
 -- ---- what a row costs
 
-pub made_row_runs : FinishRuns → CostsHold → (n : ℕ) (p : CostParams) (op : ℕ) (f : Effect) (x : Sketch) (e : Env) (m : machine.State) → StandsAt n p op x e m → Makes f x → RunsRow n p op f x e
+pub made_row_runs : FinishRuns → CostsHold → (n : ℕ) (p : CostParams) (op : ℕ) (f : Effect) (x : Sketch) (e : Env) (m : machine.MachineState) → StandsAt n p op x e m → Makes f x → RunsRow n p op f x e
 made_row_runs runs costs n p op f x e m h g =
     let y = end_of x (finishes f x g) in
     let r = runs n p op x e m h (finishes f x g) in
@@ -86,7 +86,7 @@ pub port_idle : (b : Bool) (e : Env) → b ≡ false → PortFits b e → e.port
 port_idle b e h fits = subst (λ x. PortFits x e) h fits
 
 -- the cost of the step is that of the opcode
-frame_cost : (P : Program) (m : machine.State) (s : State) (f : Frame) (callers : List Frame) (b : Body) (i : Instr) (c : ℕ) → s.mode ≡ Running → s.frames ≡ f ∷ callers → body_of P f.method ≡ Some b
+frame_cost : (P : Program) (m : machine.MachineState) (s : State) (f : Frame) (callers : List Frame) (b : Body) (i : Instr) (c : ℕ) → s.mode ≡ Running → s.frames ≡ f ∷ callers → body_of P f.method ≡ Some b
     → instr_at P f.method f.pc ≡ Some i → IsStepCost P m s c → IsCost (u1 b.code f.pc) (params m i.count 0) c
 frame_cost P m s f callers b i c mode frames body instr h =
     let top = subst (λ (fs : List Frame). IsTopCost P m Running fs c) frames (subst (λ (md : Ending). IsTopCost P m md s.frames c) mode h) in
@@ -103,7 +103,7 @@ same_found s s' f g callers mode mode' frames frames' =
     same_count k = grind (arith, nat_tests)
 
 -- a run of the sketch to its end, where it stands for s', is the step
-pub comes_by : ComingLaws → (P : Program) (pl : Places) (n size : ℕ) (m : machine.State) (answer : Option ℕ) (s s' : State) (h : IsStep P pl n size m answer s s') (i : Instr) (taken : List (Option ℕ))
+pub comes_by : ComingLaws → (P : Program) (pl : Places) (n size : ℕ) (m : machine.MachineState) (answer : Option ℕ) (s s' : State) (h : IsStep P pl n size m answer s s') (i : Instr) (taken : List (Option ℕ))
     (after : Sketch) (r : Reaches n (seen (params m i.count 0) (taken ++ None ∷ []) m h.stands.words h.stands.below) after (env_of m)) (micro stall : ℕ)
     → s.mode ≡ Running → instr_at P h.stands.top.method h.stands.top.pc ≡ Some i → s'.answers ≡ s.answers ++ taken → after.answers ≡ None ∷ [] → s'.output ≡ s.output ++ reverse after.output → IsDone after
     → StandsFor P pl n size (conc n after r.env) s' → r.cycles ≡ micro + stall → ((c : ℕ) → IsCost m.opcode (params m i.count 0) c → micro ≤ c) → LooksUp P pl (found_by s s') m (conc n after r.env) stall
@@ -121,7 +121,7 @@ comes_by coming P pl n size m answer s s' h i taken after r micro stall mode ins
     -- the run
     let followed : (i j : ℕ) → UsesUp (i + j) (begun m taken) → (more : List (Option ℕ)) → (run i (begun m (taken ++ more))).state ≡ (run i (begun m taken)).state =
     λ i j uses more. ap (λ (z : Scene). z.state) (coming.runs.run_followed i j (begun m taken) uses more) in
-    let begins : begun m answers ≡ scene n x e = ap (λ (y : machine.State). begun y answers) sees.same in
+    let begins : begun m answers ≡ scene n x e = ap (λ (y : machine.MachineState). begun y answers) sees.same in
     let runs : run k (begun m answers) ≡ scene n after r.env = ap (λ (z : Scene). run k z) begins ∙ r.same in
     let all : UsesUp k (begun m taken) = uses_up coming.runs k (begun m taken) (ap (λ (z : Scene). z.answers) runs ∙ left) in
     let all_of : UsesUp (k + 0) (begun m taken) = let U : ℕ → Type 0 = λ j. UsesUp j (begun m taken) in subst U (sym (add-zero k)) all in
@@ -153,7 +153,7 @@ comes_by coming P pl n size m answer s s' h i taken after r micro stall mode ins
       look_up = look_up;
     }
 
-pub row_comes : ComingLaws → MachinesStandAgain → (P : Program) (pl : Places) (n size : ℕ) (m : machine.State) (answer : Option ℕ) (s s' : State) (h : IsStep P pl n size m answer s s') (i : Instr) (taken : List (Option ℕ)) (f : Effect)
+pub row_comes : ComingLaws → MachinesStandAgain → (P : Program) (pl : Places) (n size : ℕ) (m : machine.MachineState) (answer : Option ℕ) (s s' : State) (h : IsStep P pl n size m answer s s') (i : Instr) (taken : List (Option ℕ)) (f : Effect)
     → s.mode ≡ Running → instr_at P h.stands.top.method h.stands.top.pc ≡ Some i → s'.answers ≡ s.answers ++ taken → f.answers ≡ None ∷ [] → s'.output ≡ s.output ++ reverse f.output
     → GoesOn P pl n size m s s' h.stands f
     → RunsRow n (params m i.count 0) m.opcode f (seen (params m i.count 0) (taken ++ None ∷ []) m h.stands.words h.stands.below) (env_of m)

@@ -10,7 +10,7 @@ use Rattle.bytecode_model.specs.Program.{Program, body_of, instr_at}
 use Rattle.bytecode_model.specs.Sizes.{value_words, body_words, frame_words, frames_words}
 use Rattle.bytecode_model.specs.WellFormed as formed
 use Rattle.image_facts.specs.Places.{Places}
-use Rattle.machine_stands.specs.Frames.{AreLocals, AreOperands, FrameWords, stacked, Saves, AreFrames}
+use Rattle.machine_stands.specs.Frames.{AreLocals, AreOperands, FrameWords, stacked, Saves, AreWordsOfFrames}
 
 pub some_is : {A : Type 0} (o : Option A) (Q : A → Type 0) → IsSomeAnd o Q → (a : A) × (o ≡ Some a) × Q a
 some_is None Q h = absurd h
@@ -69,7 +69,7 @@ frame_count w below h =
     omega (arith, h, length-append (stacked below) (w.locals ++ (w.saved ++ reverse w.operands)), length-append w.locals (w.saved ++ reverse w.operands), length-append w.saved (reverse w.operands), length-reverse w.operands)
 
 -- the words of frames are at most those that the frames take
-pub frames_count : (P : Program) (pl : Places) (place : ℕ → ℕ) (n : ℕ) (fs : List Frame) (ws : List FrameWords) → AreFrames P pl place fs ws → formed.AreFrames P n fs
+pub frames_count : (P : Program) (pl : Places) (place : ℕ → ℕ) (n : ℕ) (fs : List Frame) (ws : List FrameWords) → AreWordsOfFrames P pl place fs ws → formed.AreFrames P n fs
     → length (stacked ws) ≤ frames_words P fs
 frames_count P pl place n [] [] h g = omega arith
 frames_count P pl place n [] (w ∷ ws) h g = absurd h

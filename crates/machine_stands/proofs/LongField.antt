@@ -82,7 +82,7 @@ put_where whole old new written place high low e h w = ap (λ (ws : List ℕ). s
 same_top : (f g : Frame) (fs gs : List Frame) → f ∷ fs ≡ g ∷ gs → f ≡ g
 same_top f g fs gs e = cc
 
-body_of_top : (P : Program) (pl : Places) (words size : ℕ) (m : machine.State) (s : State) (f : Frame) (callers : List Frame) (st : StandsFor P pl words size m s) → s.frames ≡ f ∷ callers → body_of P f.method ≡ Some st.body
+body_of_top : (P : Program) (pl : Places) (words size : ℕ) (m : machine.MachineState) (s : State) (f : Frame) (callers : List Frame) (st : StandsFor P pl words size m s) → s.frames ≡ f ∷ callers → body_of P f.method ≡ Some st.body
 body_of_top P pl words size m s f callers st e = subst (λ (u : Frame). body_of P u.method ≡ Some st.body) (same_top st.top f st.callers callers (sym st.frames ∙ e)) st.is_body
 
 -- what the effect is, with these operands on top
@@ -93,7 +93,7 @@ put_effect P limits s f next named owner k p n rest e =
     ap (λ ops. on_top ops (λ v rest. on (slice_get (P.fields owner) k) (λ d. only_if (suits d v) (on_object s.objects rest (λ p o rest2.
     only_if (has_class P (kind_of P o) owner) (WritePart p k v next f.locals rest2)))))) e
 
-pub long_field_written : ImageLaws → (P : Program) (pl : Places) (words size : ℕ) (m : machine.State) (answer : Option ℕ) (s s' : State) (f : Frame) (callers : List Frame) (i : Instr)
+pub long_field_written : ImageLaws → (P : Program) (pl : Places) (words size : ℕ) (m : machine.MachineState) (answer : Option ℕ) (s s' : State) (f : Frame) (callers : List Frame) (i : Instr)
     (next index named owner k p : ℕ) (n : ℤ) (rest : List Value) → IsStep P pl words size m answer s s' → s.mode ≡ Running → s.frames ≡ f ∷ callers → instr_at P f.method f.pc ≡ Some i
     → i.first ≡ pos index → P.operand f.method f.pc ≡ AField named owner k → row_at P f ≡ Some (next, PutField named owner k) → f.operands ≡ Long n ∷ Ref p ∷ rest
     → PutsLong P pl size m s s' f callers next index p n rest

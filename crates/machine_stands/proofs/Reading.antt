@@ -87,7 +87,7 @@ row_read laws P pl n size m answer s s' h mode =
 
 -- ---- where the opcode is known
 
-module _ (laws : ReadingLaws) (P : Program) (pl : Places) (n size : ℕ) (m : machine.State) (answer : Option ℕ) (s s' : State) (h : IsStep P pl n size m answer s s') (mode : s.mode ≡ Running) where
+module _ (laws : ReadingLaws) (P : Program) (pl : Places) (n size : ℕ) (m : machine.MachineState) (answer : Option ℕ) (s s' : State) (h : IsStep P pl n size m answer s s') (mode : s.mode ≡ Running) where
   known : (r : HasRow P pl n size m answer s s' h.stands) (i : Instr) → r.instr ≡ i → Reads P pl n size m answer s s' h.stands i
   known r i is = (r.row, subst (λ (j : Instr). IsAtRow P pl n size m answer s s' h.stands j r.row) is r.is)
 

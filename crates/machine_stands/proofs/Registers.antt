@@ -27,7 +27,7 @@ listed (a ∷ b ∷ c ∷ d ∷ e ∷ f ∷ g ∷ i ∷ j ∷ xs) h = absurd (om
 low_word : (stack : List ℕ) (k : ℕ) → k < 8 → slice_index (drop 24 (take 32 stack)) k ≡ slice_index stack (24 + k)
 low_word stack k h = get_or-drop 24 (take 32 stack) k 0 ∙ get_or-take 32 stack (24 + k) 0 (omega (arith, h))
 
-pub registers_listed : (P : Program) (pl : Places) (n size : ℕ) (m : machine.State) (s : State) (f : Frame) → 64 ≤ length m.stack → HasRegisters P pl n size m s f
+pub registers_listed : (P : Program) (pl : Places) (n size : ℕ) (m : machine.MachineState) (s : State) (f : Frame) → 64 ≤ length m.stack → HasRegisters P pl n size m s f
     → drop 24 (take 32 m.stack) ≡ registers_of P pl n size s f (slice_index m.stack RAISED)
 registers_listed P pl n size m s f long h =
     let xs = drop 24 (take 32 m.stack) in

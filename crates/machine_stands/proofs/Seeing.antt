@@ -18,7 +18,7 @@ use Rattle.bytecode_model.specs.WellFormed as formed
 use Rattle.bytecode_model.specs.WellFormed.{IsWellFormed}
 use Rattle.image_facts.specs.Places.{Places, object_place}
 use Rattle.machine_stands.specs.Frames.{stacked}
-use Rattle.machine_stands.specs.StandsFor.{StandsFor, AreLeft, IsAt, IsAtInstruction, limits_of, stack_words}
+use Rattle.machine_stands.specs.StandsFor.{StandsFor, AreLeftWords, IsAt, IsAtInstruction, limits_of, stack_words}
 use Rattle.machine_stands.specs.Seen.{IsSeen}
 use Rattle.machine_stands.proofs.Counting.{saved_count, frame_count, frames_count}
 
@@ -48,18 +48,18 @@ stack_split words lower upper b a d u e h room =
 
 -- ---- the stack
 
-pub none_left : (mode : Ending) (b : Body) (left : List ℕ) → mode ≡ Running → AreLeft mode b left → left ≡ []
-none_left mode b left e h = subst (λ x. AreLeft x b left) e h
+pub none_left : (mode : Ending) (b : Body) (left : List ℕ) → mode ≡ Running → AreLeftWords mode b left → left ≡ []
+none_left mode b left e h = subst (λ x. AreLeftWords x b left) e h
 
-pub at_instruction : (P : Program) (pl : Places) (m : machine.State) (s : State) (f : Frame) (b : Body) (mode : Ending) → mode ≡ Running → IsAt P pl m s f b mode → IsAtInstruction pl m f b
+pub at_instruction : (P : Program) (pl : Places) (m : machine.MachineState) (s : State) (f : Frame) (b : Body) (mode : Ending) → mode ≡ Running → IsAt P pl m s f b mode → IsAtInstruction pl m f b
 at_instruction P pl m s f b mode e h = subst (λ x. IsAt P pl m s f b x) e h
 
 -- how many words the stack has
-pub record Sized (P : Program) (pl : Places) (n size : ℕ) (m : machine.State) (s : State) (st : StandsFor P pl n size m s) : Type 0 where
+pub record Sized (P : Program) (pl : Places) (n size : ℕ) (m : machine.MachineState) (s : State) (st : StandsFor P pl n size m s) : Type 0 where
   pub most : length (stacked (st.words ∷ st.below)) ≤ n - 80
   pub count : length (stacked (st.words ∷ st.below)) ≡ length (stacked st.below) + length st.words.locals + 5 + length st.words.operands
 
-pub sized : (P : Program) (pl : Places) (n size : ℕ) (m : machine.State) (s : State) (st : StandsFor P pl n size m s) → IsWellFormed P (limits_of P pl n size) s → Sized P pl n size m s st
+pub sized : (P : Program) (pl : Places) (n size : ℕ) (m : machine.MachineState) (s : State) (st : StandsFor P pl n size m s) → IsWellFormed P (limits_of P pl n size) s → Sized P pl n size m s st
 sized P pl n size m s st h =
     let all = frames_count P pl (object_place P pl s.objects) (length s.objects) (st.top ∷ st.callers) (st.words ∷ st.below) st.are_frames
     (subst (λ (fs : List Frame). formed.AreFrames P (length s.objects) fs) st.frames h.frames) in
@@ -69,7 +69,7 @@ sized P pl n size m s st h =
     }
 
 -- SP, where the words of the stack are these
-pub sp_is : (m : machine.State) (n : ℕ) (words : List ℕ) → stack_words m ≡ words → length m.stack ≡ n → 5 ≤ length words → length words ≤ n - 80 → m.sp ≡ length words + 61
+pub sp_is : (m : machine.MachineState) (n : ℕ) (words : List ℕ) → stack_words m ≡ words → length m.stack ≡ n → 5 ≤ length words → length words ≤ n - 80 → m.sp ≡ length words + 61
 sp_is m n words e h low high =
     let count : length (take (m.sp + 1 - STACK) (drop STACK m.stack)) + 2 ≡ length words = omega (arith, length-append (take (m.sp + 1 - STACK) (drop STACK m.stack)) (m.b ∷ m.a ∷ []), ap length e) in
     let taken : length (take (m.sp + 1 - STACK) (drop STACK m.stack)) ≡ min (m.sp + 1 - STACK) (n - STACK) =
@@ -82,7 +82,7 @@ constants_are : (stack : List ℕ) → take 32 (drop CONSTANTS stack) ≡ NUMBER
 unfolding constants
 constants_are stack h = h
 
-moving_is : (m : machine.State) → moving m ≡ drop STACK m.stack
+moving_is : (m : machine.MachineState) → moving m ≡ drop STACK m.stack
 moving_is m = drop-drop 32 32 m.stack
 
 -- the words from A down, of a stack that ends so
@@ -90,7 +90,7 @@ topmost : (words saved operands : List ℕ) (b a : ℕ) → words ++ b ∷ a ∷
 topmost words saved operands b a e =
     sym (reverse-append words (b ∷ a ∷ [])) ∙ ap reverse e ∙ reverse-append saved (reverse operands) ∙ ap (λ (ws : List ℕ). ws ++ reverse saved) (reverse-reverse operands)
 
-pub machine_is_seen : SeenAtOpcode → (P : Program) (pl : Places) (n size : ℕ) (m : machine.State) (s : State) (p : CostParams) (answers : List (Option ℕ)) (st : StandsFor P pl n size m s)
+pub machine_is_seen : SeenAtOpcode → (P : Program) (pl : Places) (n size : ℕ) (m : machine.MachineState) (s : State) (p : CostParams) (answers : List (Option ℕ)) (st : StandsFor P pl n size m s)
     → IsWellFormed P (limits_of P pl n size) s → s.mode ≡ Running → p.r ≡ m.port.read → p.w ≡ m.port.write → IsSeen n p answers m st.words st.below
 machine_is_seen law P pl n size m s p answers st h mode r w =
     let words = stacked (st.words ∷ st.below) in

@@ -29,8 +29,8 @@ use Rattle.bytecode_model.specs.WellFormed as formed
 use Rattle.bytecode_model.specs.WellFormed.{IsWellFormed}
 use Rattle.image_facts.specs.Places.{Places, object_place}
 use Rattle.image_facts.specs.Says.{Says, IsCode}
-use Rattle.machine_stands.specs.Frames.{FrameWords, stacked, vp_over, AreFrames, Saves}
-use Rattle.machine_stands.specs.StandsFor.{StandsFor, HasRoom, HasRegisters, AreLeft, IsAt, IsAtInstruction, IsCopy, limits_of, stack_words, memory_of}
+use Rattle.machine_stands.specs.Frames.{FrameWords, stacked, vp_over, AreWordsOfFrames, Saves}
+use Rattle.machine_stands.specs.StandsFor.{StandsFor, HasRoom, HasRegisters, AreLeftWords, IsAt, IsAtInstruction, IsCopy, limits_of, stack_words, memory_of}
 use Rattle.machine_stands.specs.Seen.{seen}
 use Rattle.machine_stands.specs.Again.{GoesOn, registers_of}
 use Rattle.machine_stands.proofs.Seeing.{at_instruction}
@@ -132,8 +132,8 @@ pub record Pieces (P : Program) (pl : Places) (n size : ℕ) (s : State) (x : Sk
   pub words : FrameWords
   pub below : List FrameWords
   pub left : List ℕ
-  pub are_frames : AreFrames P pl (object_place P pl s.objects) (top ∷ callers) (words ∷ below)
-  pub are_left : AreLeft s.mode body left
+  pub are_frames : AreWordsOfFrames P pl (object_place P pl s.objects) (top ∷ callers) (words ∷ below)
+  pub are_left : AreLeftWords s.mode body left
   pub stack : x.deep ++ reverse (words_of x) ≡ stacked (words ∷ below) ++ left
   pub vp : x.vp ≡ vp_over below
   pub raised : ℕ
@@ -172,7 +172,7 @@ stand_there count P pl n size s x e h = record {
 abbrev pub HasCache : Program → Places → (size : ℕ) → Cache → Type 0
 HasCache P pl size c = HasRoom P pl size c × IsCache c × All (IsCopy P pl) c.contents
 
-pub same_cache : (P : Program) (pl : Places) (n size : ℕ) (m : machine.State) (s : State) (c : Cache) → StandsFor P pl n size m s → c ≡ m.cache → HasCache P pl size c
+pub same_cache : (P : Program) (pl : Places) (n size : ℕ) (m : machine.MachineState) (s : State) (c : Cache) → StandsFor P pl n size m s → c ≡ m.cache → HasCache P pl size c
 same_cache P pl n size m s c st e = subst (λ (d : Cache). HasCache P pl size d) (sym e) (st.room, st.cache, st.copies)
 
 -- the words of the stack, in the order of the frame, of which these are left
@@ -187,7 +187,7 @@ in_order lower locals saved operands left deep words d w =
     ∙ ap (λ (ws : List ℕ). lower ++ ws) (sym (append_assoc locals (saved ++ reverse operands) (reverse left)))
     ∙ sym (append_assoc lower (locals ++ (saved ++ reverse operands)) (reverse left))
 
-pub stands_again : StandingLaws → (P : Program) (pl : Places) (n size : ℕ) (m new : machine.State) (s s' : State) (st : StandsFor P pl n size m s) (p : CostParams) (answers : List (Option ℕ)) (f : Effect) (cycles : ℕ)
+pub stands_again : StandingLaws → (P : Program) (pl : Places) (n size : ℕ) (m new : machine.MachineState) (s s' : State) (st : StandsFor P pl n size m s) (p : CostParams) (answers : List (Option ℕ)) (f : Effect) (cycles : ℕ)
     → Says P pl → IsWellFormed P (limits_of P pl n size) s' → s.mode ≡ Running → GoesOn P pl n size m s s' st f
     → DidRow n p m.opcode f (seen p answers m st.words st.below) (env_of m) cycles new → StandsFor P pl n size new s'
 stands_again laws P pl n size m new s s' st p answers f cycles says well mode g d =
@@ -213,7 +213,7 @@ stands_again laws P pl n size m new s s' st p answers f cycles says well mode g 
       method = d.follows.kept.method ∙ here.method ∙ ap pl.method (sym g.method);
       cached = ap (λ (k : ℕ). is_cached k x.cache) d.follows.kept.method ∙ ap (λ (c : Cache). is_cached m.method c) cache ∙ here.cached;
     } in
-    subst (λ (y : machine.State). StandsFor P pl n size y s') (sym d.same) (stand_there laws.words P pl n size s' x e (record {
+    subst (λ (y : machine.MachineState). StandsFor P pl n size y s') (sym d.same) (stand_there laws.words P pl n size s' x e (record {
       is_size = st.sizes.is_size;
       shape = d.shape;
       as_many = ap length d.follows.memory ∙ g.as_many ∙ st.sizes.memory;
@@ -237,7 +237,7 @@ stands_again laws P pl n size m new s s' st p answers f cycles says well mode g 
         },
         g.callers,
       );
-      are_left = subst (λ (md : Ending). AreLeft md st.body []) (sym g.mode) refl;
+      are_left = subst (λ (md : Ending). AreLeftWords md st.body []) (sym g.mode) refl;
       stack = in_order (stacked st.below) g.words.locals g.words.saved g.words.operands [] x.deep (words_of x) (d.follows.deep ∙ g.deep) (d.follows.words ∙ g.stack);
       vp = d.follows.kept.vp ∙ st.vp;
       raised = g.raised;

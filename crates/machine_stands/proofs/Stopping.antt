@@ -18,8 +18,8 @@ use Rattle.bytecode_model.specs.declared.Ending.TheVariants.{Running, Raising, E
 use Rattle.bytecode_model.specs.State.{Object, Frame, State}
 use Rattle.bytecode_model.specs.Program.{Program, instr_at}
 use Rattle.image_facts.specs.Places.{Places, object_place}
-use Rattle.machine_stands.specs.Frames.{FrameWords, stacked, AreFrames}
-use Rattle.machine_stands.specs.StandsFor.{AreLeft, IsAt, IsAtRaise, memory_of}
+use Rattle.machine_stands.specs.Frames.{FrameWords, stacked, AreWordsOfFrames}
+use Rattle.machine_stands.specs.StandsFor.{AreLeftWords, IsAt, IsAtRaise, memory_of}
 use Rattle.machine_stands.specs.Comes.{params, found_between, found_by, LooksUp, ComesTo}
 use Rattle.machine_stands.specs.Simulates.{IsStep}
 use Rattle.machine_stands.specs.Seen.{seen}
@@ -45,7 +45,7 @@ ended_found s s' mode mode' = ap (λ (md : Ending). found_between s.frames s'.fr
 abbrev emptied : Frame → Frame
 emptied f = record f { operands = [] }
 
-pub raise_comes : StackHasWords → ComingLaws → (P : Program) (pl : Places) (n size : ℕ) (m : machine.State) (answer : Option ℕ) (s s' : State) (h : IsStep P pl n size m answer s s') (i : Instr) (p : ℕ) (f : rows.Raising)
+pub raise_comes : StackHasWords → ComingLaws → (P : Program) (pl : Places) (n size : ℕ) (m : machine.MachineState) (answer : Option ℕ) (s s' : State) (h : IsStep P pl n size m answer s s') (i : Instr) (p : ℕ) (f : rows.Raising)
     → s.mode ≡ Running → instr_at P h.stands.top.method h.stands.top.pc ≡ Some i → RaisesOn P pl n size m s s' h.stands i p f
     → RunsToRaise n (params m i.count 0) m.opcode f (seen (params m i.count 0) (None ∷ []) m h.stands.words h.stands.below) (env_of m)
     → ComesTo P pl n size m s s'
@@ -93,9 +93,9 @@ raise_comes count coming P pl n size m answer s s' h i p f mode instr on r =
       words = words;
       below = st.below;
       left = reverse on.left;
-      are_frames = subst (λ (os : List Object). AreFrames P pl (object_place P pl os) (top ∷ st.callers) (words ∷ st.below)) (sym on.rest.objects)
+      are_frames = subst (λ (os : List Object). AreWordsOfFrames P pl (object_place P pl os) (top ∷ st.callers) (words ∷ st.below)) (sym on.rest.objects)
           (record { locals = st.are_frames.0.locals; saved = st.are_frames.0.saved; operands = tt }, st.are_frames.1);
-      are_left = subst (λ (md : Ending). AreLeft md st.body (reverse on.left)) (sym on.mode) (omega (arith, length-reverse on.left, on.few));
+      are_left = subst (λ (md : Ending). AreLeftWords md st.body (reverse on.left)) (sym on.mode) (omega (arith, length-reverse on.left, on.few));
       stack = in_order (stacked st.below) st.words.locals st.words.saved [] on.left y.deep (words_of y) (r.raises.deep ∙ sees.deep)
           (r.raises.words ∙ on.stack ∙ ap (λ (ws : List ℕ). ws ++ reverse st.words.saved) (sym (append-nil on.left)));
       vp = r.raises.kept.vp ∙ st.vp;
@@ -110,7 +110,7 @@ raise_comes count coming P pl n size m answer s s' h i p f mode instr on r =
     (on.rest.output ∙ sym (append-nil s.output) ∙ ap (λ (ws : List ℕ). s.output ++ reverse ws) (sym r.raises.output)) r.done stands (sym (add-zero r.reaches.cycles)) r.cost
     (subst (λ o. LooksUp P pl o m new 0) (sym (raising_found s s' p mode on.mode)) (refl, r.raises.kept.cache, r.raises.kept.hits, r.raises.kept.misses))
 
-pub end_comes : StackHasWords → ComingLaws → (P : Program) (pl : Places) (n size : ℕ) (m : machine.State) (answer : Option ℕ) (s s' : State) (h : IsStep P pl n size m answer s s') (i : Instr)
+pub end_comes : StackHasWords → ComingLaws → (P : Program) (pl : Places) (n size : ℕ) (m : machine.MachineState) (answer : Option ℕ) (s s' : State) (h : IsStep P pl n size m answer s s') (i : Instr)
     → s.mode ≡ Running → instr_at P h.stands.top.method h.stands.top.pc ≡ Some i → s'.mode ≡ Ended → s'.frames ≡ s.frames → SameRest s s'
     → RunsToEnd n m (seen (params m i.count 0) (None ∷ []) m h.stands.words h.stands.below) i.count → ComesTo P pl n size m s s'
 end_comes count coming P pl n size m answer s s' h i mode instr ended frames rest r =
@@ -141,8 +141,8 @@ end_comes count coming P pl n size m answer s s' h i mode instr ended frames res
       words = st.words;
       below = st.below;
       left = [];
-      are_frames = subst (λ (os : List Object). AreFrames P pl (object_place P pl os) (st.top ∷ st.callers) (st.words ∷ st.below)) (sym rest.objects) st.are_frames;
-      are_left = subst (λ (md : Ending). AreLeft md st.body []) (sym ended) refl;
+      are_frames = subst (λ (os : List Object). AreWordsOfFrames P pl (object_place P pl os) (st.top ∷ st.callers) (st.words ∷ st.below)) (sym rest.objects) st.are_frames;
+      are_left = subst (λ (md : Ending). AreLeftWords md st.body []) (sym ended) refl;
       stack = in_order (stacked st.below) st.words.locals st.words.saved st.words.operands [] y.deep (words_of y) (r.halts.deep ∙ sees.deep) (r.halts.words ∙ sees.words);
       vp = r.halts.kept.vp ∙ st.vp;
       raised = raised;

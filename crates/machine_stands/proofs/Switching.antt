@@ -27,7 +27,7 @@ use Rattle.bytecode_model.specs.WellFormed as formed
 use Rattle.image_facts.specs.Places.{Places}
 use Rattle.image_facts.specs.Says.{IsCode}
 use Rattle.machine_stands.specs.Frames.{stacked}
-use Rattle.machine_stands.specs.StandsFor.{AreLeft, IsAt, IsAtInstruction}
+use Rattle.machine_stands.specs.StandsFor.{AreLeftWords, IsAt, IsAtInstruction}
 use Rattle.machine_stands.specs.Comes.{params, found_between, found_by, top_method, Found, LooksUp, ComesTo}
 use Rattle.machine_stands.specs.Simulates.{IsStep}
 use Rattle.machine_stands.specs.Seen.{seen}
@@ -40,7 +40,7 @@ use Rattle.machine_stands.proofs.Coming.{ComingLaws, port_idle, comes_by}
 
 -- ---- the look-up
 
-pub looks : PackedHasWords → (P : Program) (pl : Places) (size : ℕ) (m new : machine.State) (k : ℕ) (b : Body) (f : Switch) (stall : ℕ) → HasCache P pl size m.cache → body_of P k ≡ Some b
+pub looks : PackedHasWords → (P : Program) (pl : Places) (size : ℕ) (m new : machine.MachineState) (k : ℕ) (b : Body) (f : Switch) (stall : ℕ) → HasCache P pl size m.cache → body_of P k ≡ Some b
     → new.cache ≡ f.cache → new.hits ≡ f.hits → new.misses ≡ f.misses → stall ≡ f.loads * 4 + f.loaded * (2 + m.port.read)
     → (hit : Bool) → is_cached (pl.method k) m.cache ≡ hit → FindsBy hit (pl.method k) (words_of_bytes b.code) m f
     → HasCache P pl size new.cache × (is_cached (pl.method k) new.cache ≡ true) × Found hit (pl.method k) (words_of_bytes b.code) m new stall
@@ -75,7 +75,7 @@ other_found s s' top callers mode mode' frames other =
     ap (λ (md : Ending). found_between s.frames s'.frames md s'.mode) mode ∙ ap (λ (md : Ending). found_between s.frames s'.frames Running md) mode'
     ∙ ap (λ (b : Bool). if b then None else top_method s'.frames) other ∙ ap top_method frames
 
-pub switch_comes : StandingLaws → PackedHasWords → ComingLaws → (P : Program) (pl : Places) (n size : ℕ) (m : machine.State) (answer : Option ℕ) (s s' : State) (h : IsStep P pl n size m answer s s') (i : Instr) (f : Switch)
+pub switch_comes : StandingLaws → PackedHasWords → ComingLaws → (P : Program) (pl : Places) (n size : ℕ) (m : machine.MachineState) (answer : Option ℕ) (s s' : State) (h : IsStep P pl n size m answer s s') (i : Instr) (f : Switch)
     → s.mode ≡ Running → instr_at P h.stands.top.method h.stands.top.pc ≡ Some i → SwitchesOn P pl n size m s s' f
     → RunsSwitch n (params m i.count 0) m.opcode f (seen (params m i.count 0) (None ∷ []) m h.stands.words h.stands.below) (env_of m)
     → ComesTo P pl n size m s s'
@@ -126,7 +126,7 @@ switch_comes laws packed coming P pl n size m answer s s' h i f mode instr on r 
       below = on.below;
       left = [];
       are_frames = on.are_frames;
-      are_left = subst (λ (md : Ending). AreLeft md on.body []) (sym on.mode) refl;
+      are_left = subst (λ (md : Ending). AreLeftWords md on.body []) (sym on.mode) refl;
       stack = in_order (stacked on.below) on.words.locals on.words.saved on.words.operands [] y.deep (words_of y) (r.switches.deep ∙ on.deep) (r.switches.words ∙ on.stack);
       vp = r.switches.vp ∙ on.vp;
       raised = on.raised;

@@ -34,8 +34,8 @@ use Rattle.bytecode_model.specs.WellFormed as formed
 use Rattle.bytecode_model.specs.WellFormed.{ModeFits, IsWellFormed, top_operands}
 use Rattle.image_facts.specs.Places.{Places, object_place}
 use Rattle.image_facts.specs.Says.{IsCode}
-use Rattle.machine_stands.specs.Frames.{FrameWords, AreFrames, AreOperands, stacked}
-use Rattle.machine_stands.specs.StandsFor.{StandsFor, AreLeft, IsAt, IsAtInstruction, IsAtRaise, IsAtUncaught, limits_of, stack_words}
+use Rattle.machine_stands.specs.Frames.{FrameWords, AreWordsOfFrames, AreOperands, stacked}
+use Rattle.machine_stands.specs.StandsFor.{StandsFor, AreLeftWords, IsAt, IsAtInstruction, IsAtRaise, IsAtUncaught, limits_of, stack_words}
 use Rattle.machine_stands.specs.Comes.{IsFrameCost, IsTopCost, IsStepCost, Found, found_between, found_by, top_method, LooksUp, ComesTo}
 use Rattle.machine_stands.specs.Simulates.{IsStep}
 use Rattle.machine_stands.specs.Again.{registers_of}
@@ -60,14 +60,14 @@ pub record RaiseLaws : Type 0 where
 
 -- ---- the machine as a sketch
 
-at_raise : (P : Program) (pl : Places) (m : machine.State) (s : State) (f : Frame) (b : Body) (mode : Ending) (p : ℕ) → mode ≡ Raising p → IsAt P pl m s f b mode → IsAtRaise P pl m s f p
+at_raise : (P : Program) (pl : Places) (m : machine.MachineState) (s : State) (f : Frame) (b : Body) (mode : Ending) (p : ℕ) → mode ≡ Raising p → IsAt P pl m s f b mode → IsAtRaise P pl m s f p
 at_raise P pl m s f b mode p e h = subst (λ x. IsAt P pl m s f b x) e h
 
-few_left : (mode : Ending) (b : Body) (left : List ℕ) (p : ℕ) → mode ≡ Raising p → AreLeft mode b left → length left ≤ b.max_stack
-few_left mode b left p e h = subst (λ x. AreLeft x b left) e h
+few_left : (mode : Ending) (b : Body) (left : List ℕ) (p : ℕ) → mode ≡ Raising p → AreLeftWords mode b left → length left ≤ b.max_stack
+few_left mode b left p e h = subst (λ x. AreLeftWords x b left) e h
 
 -- the top frame has no operands
-no_operands : (P : Program) (pl : Places) (n size : ℕ) (m : machine.State) (s : State) (st : StandsFor P pl n size m s) (p : ℕ) → IsWellFormed P (limits_of P pl n size) s → s.mode ≡ Raising p → st.words.operands ≡ []
+no_operands : (P : Program) (pl : Places) (n size : ℕ) (m : machine.MachineState) (s : State) (st : StandsFor P pl n size m s) (p : ℕ) → IsWellFormed P (limits_of P pl n size) s → s.mode ≡ Raising p → st.words.operands ≡ []
 no_operands P pl n size m s st p well mode =
     let fits = subst (λ (md : Ending). ModeFits (length s.objects) s.frames md) mode well.mode in
     let none : st.top.operands ≡ [] = sym (ap top_operands st.frames) ∙ fits.1 in
@@ -160,14 +160,14 @@ raise_is_seen laws P pl n size m answer s s' object h mode =
 -- ---- the step
 
 -- its cost
-raise_cost : (P : Program) (m : machine.State) (s : State) (f : Frame) (callers : List Frame) (b : Body) (p c : ℕ) → s.mode ≡ Raising p → s.frames ≡ f ∷ callers → body_of P f.method ≡ Some b
+raise_cost : (P : Program) (m : machine.MachineState) (s : State) (f : Frame) (callers : List Frame) (b : Body) (p c : ℕ) → s.mode ≡ Raising p → s.frames ≡ f ∷ callers → body_of P f.method ≡ Some b
     → IsStepCost P m s c → IsRaiseCost (raise_params m b) c
 raise_cost P m s f callers b p c mode frames body h =
     let top = subst (λ (fs : List Frame). IsTopCost P m (Raising p) fs c) frames (subst (λ (md : Ending). IsTopCost P m md s.frames c) mode h) in
     holds_at (body_of P f.method) b (λ u. IsFrameCost P m (Raising p) f u c) body top
 
 -- a run of the sketch to its end, where it stands for s', is the step
-comes_raising : RaiseLaws → (P : Program) (pl : Places) (n size : ℕ) (m : machine.State) (answer : Option ℕ) (s s' : State) (object : ℕ) (h : IsStep P pl n size m answer s s') (after : Sketch)
+comes_raising : RaiseLaws → (P : Program) (pl : Places) (n size : ℕ) (m : machine.MachineState) (answer : Option ℕ) (s s' : State) (object : ℕ) (h : IsStep P pl n size m answer s s') (after : Sketch)
     (r : Reaches n (seen_raise P pl n size m s h.stands) after (env_of m)) (micro stall : ℕ) → s.mode ≡ Raising object → SameRest s s' → after.answers ≡ None ∷ [] → after.output ≡ [] → IsDone after
     → StandsFor P pl n size (conc n after r.env) s' → r.cycles ≡ micro + stall → ((c : ℕ) → IsRaiseCost (raise_params m h.stands.body) c → micro ≤ c) → LooksUp P pl (found_by s s') m (conc n after r.env) stall
     → ComesTo P pl n size m s s'
@@ -181,7 +181,7 @@ comes_raising laws P pl n size m answer s s' object h after r micro stall mode r
     let sees = raise_is_seen laws P pl n size m answer s s' object h mode in
     let followed : (i j : ℕ) → UsesUp (i + j) (begun m none) → (more : List (Option ℕ)) → (run i (begun m (none ++ more))).state ≡ (run i (begun m none)).state =
     λ i j uses more. ap (λ (z : Scene). z.state) (laws.runs.run_followed i j (begun m none) uses more) in
-    let begins : begun m (None ∷ []) ≡ scene n x e = ap (λ (y : machine.State). begun y (None ∷ [])) sees.same in
+    let begins : begun m (None ∷ []) ≡ scene n x e = ap (λ (y : machine.MachineState). begun y (None ∷ [])) sees.same in
     let runs : run k (begun m (None ∷ [])) ≡ scene n after r.env = ap (λ (z : Scene). run k z) begins ∙ r.same in
     let all : UsesUp k (begun m none) = uses_up laws.runs k (begun m none) (ap (λ (z : Scene). z.answers) runs ∙ left) in
     let all_of : UsesUp (k + 0) (begun m none) = let U : ℕ → Type 0 = λ j. UsesUp j (begun m none) in subst U (sym (add-zero k)) all in
@@ -281,9 +281,9 @@ handler_comes laws P pl n size m answer s s' object target h f y mode r done swi
       words = words;
       below = st.below;
       left = [];
-      are_frames = subst (λ (os : List Object). AreFrames P pl (object_place P pl os) (top ∷ st.callers) (words ∷ st.below)) (sym on.rest.objects)
+      are_frames = subst (λ (os : List Object). AreWordsOfFrames P pl (object_place P pl os) (top ∷ st.callers) (words ∷ st.below)) (sym on.rest.objects)
           (record { locals = st.are_frames.0.locals; saved = st.are_frames.0.saved; operands = (refl, tt) }, st.are_frames.1);
-      are_left = subst (λ (md : Ending). AreLeft md st.body []) (sym on.mode) refl;
+      are_left = subst (λ (md : Ending). AreLeftWords md st.body []) (sym on.mode) refl;
       stack = in_order (stacked st.below) st.words.locals st.words.saved words.operands [] y.deep (words_of y) (switches.deep ∙ on.deep ∙ sees.deep) (switches.words ∙ on.stack);
       vp = switches.vp ∙ on.vp ∙ st.vp;
       raised = object_place P pl s.objects object;
@@ -323,8 +323,8 @@ drop_comes laws P pl n size m answer s s' object h y mode r done on =
     let raised = object_place P pl s.objects object in
     let sees = raise_is_seen laws P pl n size m answer s s' object h mode in
     let has = same_cache P pl n size m s y.cache st on.cache in
-    let are = subst (λ (fs : List Frame). AreFrames P pl (object_place P pl s.objects) fs (on.words ∷ on.below)) on.callers
-    (subst (λ (ws : List FrameWords). AreFrames P pl (object_place P pl s.objects) st.callers ws) on.belows st.are_frames.1) in
+    let are = subst (λ (fs : List Frame). AreWordsOfFrames P pl (object_place P pl s.objects) fs (on.words ∷ on.below)) on.callers
+    (subst (λ (ws : List FrameWords). AreWordsOfFrames P pl (object_place P pl s.objects) st.callers ws) on.belows st.are_frames.1) in
     let behind = (constants ++ y.deep) ++ reverse_aux y.under y.above in
     let some = on.some in
     let at : IsAtRaise P pl new s' top object = record {
@@ -351,9 +351,9 @@ drop_comes laws P pl n size m answer s s' object h y mode r done on =
       words = words;
       below = on.below;
       left = reverse on.words.operands;
-      are_frames = subst (λ (os : List Object). AreFrames P pl (object_place P pl os) (top ∷ on.others) (words ∷ on.below)) (sym on.rest.objects)
+      are_frames = subst (λ (os : List Object). AreWordsOfFrames P pl (object_place P pl os) (top ∷ on.others) (words ∷ on.below)) (sym on.rest.objects)
           (record { locals = are.0.locals; saved = are.0.saved; operands = tt }, are.1);
-      are_left = subst (λ (md : Ending). AreLeft md on.body (reverse on.words.operands)) (sym on.mode) (omega (arith, length-reverse on.words.operands, on.few));
+      are_left = subst (λ (md : Ending). AreLeftWords md on.body (reverse on.words.operands)) (sym on.mode) (omega (arith, length-reverse on.words.operands, on.few));
       stack = in_order (stacked on.below) on.words.locals on.words.saved [] on.words.operands y.deep (words_of y) on.deep
           (on.stack ∙ ap (λ (ws : List ℕ). ws ++ reverse on.words.saved) (sym (append-nil on.words.operands)));
       vp = on.vp;
@@ -411,8 +411,8 @@ uncaught_comes laws P pl n size m answer s s' object c o h y mode r done halted 
       words = st.words;
       below = st.below;
       left = st.left;
-      are_frames = subst (λ (os : List Object). AreFrames P pl (object_place P pl os) (st.top ∷ st.callers) (st.words ∷ st.below)) (sym rest.objects) st.are_frames;
-      are_left = subst (λ (md : Ending). AreLeft md st.body st.left) (sym ended) few;
+      are_frames = subst (λ (os : List Object). AreWordsOfFrames P pl (object_place P pl os) (st.top ∷ st.callers) (st.words ∷ st.below)) (sym rest.objects) st.are_frames;
+      are_left = subst (λ (md : Ending). AreLeftWords md st.body st.left) (sym ended) few;
       stack = ap (λ (ws : List ℕ). ws ++ reverse (words_of y)) (halted.deep ∙ sees.deep) ∙ ap (λ (ws : List ℕ). (stacked st.below ++ st.words.locals) ++ reverse ws) (halted.words ∙ sees.words)
           ∙ ap (λ (ws : List ℕ). (stacked st.below ++ st.words.locals) ++ ws) (reverse-append (reverse st.left) (reverse st.words.saved)
           ∙ ap (λ (ws : List ℕ). ws ++ reverse (reverse st.left)) (reverse-reverse st.words.saved) ∙ ap (λ (ws : List ℕ). st.words.saved ++ ws) (reverse-reverse st.left))

@@ -21,21 +21,21 @@ use Rattle.machine_stands.specs.StandsFor.{StandsFor}
 -- ---- what the step may cost
 
 -- with this memory, for so many pairs of a lookupswitch, or entries of an exception table
-abbrev pub params : machine.State → (pairs entries : ℕ) → CostParams
+abbrev pub params : machine.MachineState → (pairs entries : ℕ) → CostParams
 params m pairs entries = record { r = m.port.read; w = m.port.write; pairs = pairs; entries = entries }
 
 -- c is what the opcode at the frame's place costs, or a step of the raise routine over the frame
-abbrev pub IsFrameCost : Program → machine.State → Ending → Frame → Body → ℕ → Type 0
+abbrev pub IsFrameCost : Program → machine.MachineState → Ending → Frame → Body → ℕ → Type 0
 IsFrameCost P m Running f b c = IsSomeAnd (instr_at P f.method f.pc) (λ i. IsCost (u1 b.code f.pc) (params m i.count 0) c)
 IsFrameCost P m (Raising p) f b c = IsRaiseCost (params m 0 (length b.handlers)) c
 IsFrameCost P m mode f b c = ⊥
 
-abbrev pub IsTopCost : Program → machine.State → Ending → List Frame → ℕ → Type 0
+abbrev pub IsTopCost : Program → machine.MachineState → Ending → List Frame → ℕ → Type 0
 IsTopCost P m mode [] c = ⊥
 IsTopCost P m mode (f ∷ callers) c = IsSomeAnd (body_of P f.method) (λ b. IsFrameCost P m mode f b c)
 
 -- c is what the step from the state costs where its look-up hits
-abbrev pub IsStepCost : Program → machine.State → State → ℕ → Type 0
+abbrev pub IsStepCost : Program → machine.MachineState → State → ℕ → Type 0
 IsStepCost P m s c = IsTopCost P m s.mode s.frames c
 
 -- ---- which method it looks up
@@ -54,13 +54,13 @@ abbrev pub found_by : State → State → Option ℕ
 found_by s s' = found_between s.frames s'.frames s.mode s'.mode
 
 -- a look-up of a method at a place, with these words: a hit takes no time, a miss stalls for the load
-abbrev pub Found : (is_hit : Bool) → (place : ℕ) → (words : List ℕ) → (old new : machine.State) → (stall : ℕ) → Type 0
+abbrev pub Found : (is_hit : Bool) → (place : ℕ) → (words : List ℕ) → (old new : machine.MachineState) → (stall : ℕ) → Type 0
 Found true place words old new stall = (stall ≡ 0) × (new.cache ≡ old.cache) × (new.hits ≡ (old.hits + 1) % 2 ^ 64) × (new.misses ≡ old.misses)
 Found false place words old new stall =
     (stall ≡ load_stall old.port (length words)) × (new.cache ≡ loaded place words old.cache) × (new.hits ≡ old.hits) × (new.misses ≡ (old.misses + 1) % 2 ^ 64)
 
 -- the one look-up of a method, or none
-abbrev pub LooksUp : Program → Places → Option ℕ → (old new : machine.State) → (stall : ℕ) → Type 0
+abbrev pub LooksUp : Program → Places → Option ℕ → (old new : machine.MachineState) → (stall : ℕ) → Type 0
 LooksUp P pl None old new stall = (stall ≡ 0) × (new.cache ≡ old.cache) × (new.hits ≡ old.hits) × (new.misses ≡ old.misses)
 LooksUp P pl (Some k) old new stall = IsSomeAnd (body_of P k)
     (λ b. Found (is_cached (pl.method k) old.cache) (pl.method k) (words_of_bytes b.code) old new stall)
@@ -68,8 +68,8 @@ LooksUp P pl (Some k) old new stall = IsSomeAnd (body_of P k)
 -- ---- the run
 
 -- From the machine m, which stands for s, the next boundary is where one stands for s'.
-pub record ComesTo (P : Program) (pl : Places) (n size : ℕ) (m : machine.State) (s s' : State) : Type 0 where
-  pub new : machine.State
+pub record ComesTo (P : Program) (pl : Places) (n size : ℕ) (m : machine.MachineState) (s s' : State) : Type 0 where
+  pub new : machine.MachineState
   -- where the input gives the answers that the step takes, whatever more it would give
   pub answers : List (Option ℕ)
   pub took : s'.answers ≡ s.answers ++ answers

@@ -5,11 +5,12 @@ use Rattle.bytecode_model.specs.Program.{Program}
 use Rattle.bytecode_model.specs.Sizes.{frames_words}
 use Rattle.bytecode_model.specs.WellFormed as formed
 use Rattle.image_facts.specs.Places.{Places}
-use Rattle.machine_stands.specs.Frames.{FrameWords, AreFrames, Saves, stacked}
+use Rattle.machine_stands.specs.Frames.{FrameWords, AreWordsOfFrames, Saves, stacked}
 
 -- The words of frames are at most as many as the frames may take.
 abbrev pub FramesHaveRoom : Type 0
-FramesHaveRoom = (P : Program) (pl : Places) (place : ℕ → ℕ) (objects : ℕ) (frames : List Frame) (words : List FrameWords) → AreFrames P pl place frames words
+FramesHaveRoom = (P : Program) (pl : Places) (place : ℕ → ℕ) (objects : ℕ) (frames : List Frame) (words : List FrameWords)
+    → AreWordsOfFrames P pl place frames words
     → formed.AreFrames P objects frames
     → length (stacked words) ≤ frames_words P frames
 

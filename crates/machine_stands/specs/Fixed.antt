@@ -17,18 +17,19 @@ use Rattle.machine_stands.specs.Reading.{IsAtRow}
 
 -- Fixed words are read in the memory at their place.
 abbrev pub FixedWordsAreRead : Type 0
-FixedWordsAreRead = (P : Program) (pl : Places) (n size : ℕ) (m : machine.State) (s : State) (place : ℕ) (words : List ℕ) (k : ℕ) → StandsFor P pl n size m s
+FixedWordsAreRead = (P : Program) (pl : Places) (n size : ℕ) (m : machine.MachineState) (s : State) (place : ℕ) (words : List ℕ) (k : ℕ)
+    → StandsFor P pl n size m s
     → IsWellFormed P (limits_of P pl n size) s
     → AreFixed P pl place words → k < length words → (place + k < size) × (slice_index m.port.words (place + k) ≡ slice_index words k)
 
 -- Of what instructions raise, the list of those objects has the places.
 abbrev pub RaiseListIsRead : Type 0
-RaiseListIsRead = (P : Program) (pl : Places) (n size : ℕ) (m : machine.State) (answer : Option ℕ) (s s' : State) (h : IsStep P pl n size m answer s s')
+RaiseListIsRead = (P : Program) (pl : Places) (n size : ℕ) (m : machine.MachineState) (answer : Option ℕ) (s s' : State) (h : IsStep P pl n size m answer s s')
     (f : Fault) → P.linked ≡ true
     → (pl.raise_list + fault_object f < size) × (slice_index m.port.words (pl.raise_list + fault_object f) ≡ object_place P pl s.objects (fault_object f))
 
 -- the two words of the pool entry that an instruction names
-pub record IsPoolEntry (P : Program) (pl : Places) (size : ℕ) (m : machine.State) (op method pc index : ℕ) : Type 0 where
+pub record IsPoolEntry (P : Program) (pl : Places) (size : ℕ) (m : machine.MachineState) (op method pc index : ℕ) : Type 0 where
   pub first : ℕ
   pub second : ℕ
   pub within : pool_of P pl method + 2 * index + 1 < size
@@ -37,7 +38,7 @@ pub record IsPoolEntry (P : Program) (pl : Places) (size : ℕ) (m : machine.Sta
   pub means : Means P pl op (P.operand method pc) first second
 
 abbrev pub PoolsAreRead : Type 0
-PoolsAreRead = (P : Program) (pl : Places) (n size : ℕ) (m : machine.State) (answer : Option ℕ) (s s' : State) (h : IsStep P pl n size m answer s s')
+PoolsAreRead = (P : Program) (pl : Places) (n size : ℕ) (m : machine.MachineState) (answer : Option ℕ) (s s' : State) (h : IsStep P pl n size m answer s s')
     (i : Instr) (r : Row) (index : ℕ) → s.mode ≡ Running
     → IsAtRow P pl n size m answer s s' h.stands i r → i.first ≡ pos index → (P.operand h.stands.top.method h.stands.top.pc ≡ NoOperand → ⊥)
     → IsPoolEntry P pl size m i.op h.stands.top.method h.stands.top.pc index

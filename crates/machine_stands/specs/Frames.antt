@@ -56,13 +56,14 @@ Saves P pl (c ∷ cs) [] saved = ⊥
 Saves P pl (c ∷ cs) (w ∷ ws) saved =
     IsSomeAnd (instr_at P c.method c.pc) (λ i. saved ≡ sp_over (w ∷ ws) ∷ (c.pc + i.length) ∷ vp_over ws ∷ pool_of P pl c.method ∷ pl.method c.method ∷ [])
 
-pub record IsFrame (P : Program) (pl : Places) (place : ℕ → ℕ) (f : Frame) (callers : List Frame) (w : FrameWords) (below : List FrameWords) : Type 0 where
+pub record AreWordsOfFrame (P : Program) (pl : Places) (place : ℕ → ℕ) (f : Frame) (callers : List Frame) (w : FrameWords)
+    (below : List FrameWords) : Type 0 where
   pub locals : AreLocals place f.locals w.locals
   pub saved : Saves P pl callers below w.saved
   pub operands : AreOperands place f.operands w.operands
 
 -- these are the words of the frames, of which the top one comes first
-abbrev pub AreFrames : Program → Places → (place : ℕ → ℕ) → List Frame → List FrameWords → Type 0
-AreFrames P pl place [] [] = Unit {0}
-AreFrames P pl place (f ∷ callers) (w ∷ below) = IsFrame P pl place f callers w below × AreFrames P pl place callers below
-AreFrames P pl place fs ws = ⊥
+abbrev pub AreWordsOfFrames : Program → Places → (place : ℕ → ℕ) → List Frame → List FrameWords → Type 0
+AreWordsOfFrames P pl place [] [] = Unit {0}
+AreWordsOfFrames P pl place (f ∷ callers) (w ∷ below) = AreWordsOfFrame P pl place f callers w below × AreWordsOfFrames P pl place callers below
+AreWordsOfFrames P pl place fs ws = ⊥

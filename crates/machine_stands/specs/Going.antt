@@ -23,7 +23,7 @@ use Rattle.machine_stands.specs.Seen.{seen}
 use Rattle.machine_stands.specs.Reading.{IsAtRow}
 
 -- of x the row makes the words of the frame with these local variables and operands, at a place, and changes nothing else
-pub record MakesFrame (P : Program) (pl : Places) (n size : ℕ) (m : machine.State) (s : State) (st : StandsFor P pl n size m s) (pc : ℕ)
+pub record MakesFrame (P : Program) (pl : Places) (n size : ℕ) (m : machine.MachineState) (s : State) (st : StandsFor P pl n size m s) (pc : ℕ)
     (locals operands : List Value) (x : Sketch) (f : row.Effect) : Type 0 where
   pub local_words : List ℕ
   pub operand_words : List ℕ
@@ -38,7 +38,8 @@ pub record MakesFrame (P : Program) (pl : Places) (n size : ℕ) (m : machine.St
   pub output : f.output ≡ []
 
 abbrev pub FramesGoOn : Type 0
-FramesGoOn = (P : Program) (pl : Places) (n size : ℕ) (m : machine.State) (answer : Option ℕ) (s s' : State) (h : IsStep P pl n size m answer s s') (i : Instr)
+FramesGoOn = (P : Program) (pl : Places) (n size : ℕ) (m : machine.MachineState) (answer : Option ℕ) (s s' : State) (h : IsStep P pl n size m answer s s')
+    (i : Instr)
     (r : Row) (pc : ℕ) (locals operands : List Value) (f : row.Effect)
     → s.mode ≡ Running → IsAtRow P pl n size m answer s s' h.stands i r
     → effect P (limits_of P pl n size) s h.stands.top (h.stands.top.pc + i.length) r ≡ Go pc locals operands
@@ -47,7 +48,7 @@ FramesGoOn = (P : Program) (pl : Places) (n size : ℕ) (m : machine.State) (ans
     → ComesTo P pl n size m s s'
 
 -- the row leaves some words above those that the frame saves; jpc is past a byte of the instruction, and the object lies at its place
-pub record LeavesFrame (P : Program) (pl : Places) (n size : ℕ) (m : machine.State) (s : State) (st : StandsFor P pl n size m s) (i : Instr) (object : ℕ)
+pub record LeavesFrame (P : Program) (pl : Places) (n size : ℕ) (m : machine.MachineState) (s : State) (st : StandsFor P pl n size m s) (i : Instr) (object : ℕ)
     (f : rows.Raising) : Type 0 where
   pub left : List ℕ
   pub few : length left ≤ st.body.max_stack
@@ -57,7 +58,8 @@ pub record LeavesFrame (P : Program) (pl : Places) (n size : ℕ) (m : machine.S
   pub place : f.object ≡ object_place P pl s.objects object
 
 abbrev pub FramesRaise : Type 0
-FramesRaise = (P : Program) (pl : Places) (n size : ℕ) (m : machine.State) (answer : Option ℕ) (s s' : State) (h : IsStep P pl n size m answer s s') (i : Instr)
+FramesRaise = (P : Program) (pl : Places) (n size : ℕ) (m : machine.MachineState) (answer : Option ℕ) (s s' : State) (h : IsStep P pl n size m answer s s')
+    (i : Instr)
     (r : Row) (object : ℕ) (f : rows.Raising)
     → s.mode ≡ Running → IsAtRow P pl n size m answer s s' h.stands i r
     → effect P (limits_of P pl n size) s h.stands.top (h.stands.top.pc + i.length) r ≡ Raise object

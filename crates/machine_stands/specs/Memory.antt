@@ -18,7 +18,8 @@ use Rattle.machine_stands.specs.Simulates.{IsStep}
 
 -- What a `putfield` of a long writes: its pool entry has the word of the field in the object, and 1; two words of the object then make the memory
 -- that of the next state.
-pub record PutsLong (P : Program) (pl : Places) (size : ℕ) (m : machine.State) (s s' : State) (f : Frame) (callers : List Frame) (next index p : ℕ) (n : ℤ)
+pub record PutsLong (P : Program) (pl : Places) (size : ℕ) (m : machine.MachineState) (s s' : State) (f : Frame) (callers : List Frame) (next index p : ℕ)
+    (n : ℤ)
     (rest : List Value) : Type 0 where
   pub first : ℕ
   pub entry : LieAt m.port.words (pool_of P pl f.method + 2 * index) (first ∷ 1 ∷ [])
@@ -28,7 +29,8 @@ pub record PutsLong (P : Program) (pl : Places) (size : ℕ) (m : machine.State)
       slice_set (slice_set m.port.words (place + 1) (low_word n)) place (high_word n) ≡ memory_of P pl size s'
 
 abbrev pub LongFieldsAreWritten : Type 0
-LongFieldsAreWritten = (P : Program) (pl : Places) (words size : ℕ) (m : machine.State) (answer : Option ℕ) (s s' : State) (f : Frame) (callers : List Frame)
+LongFieldsAreWritten = (P : Program) (pl : Places) (words size : ℕ) (m : machine.MachineState) (answer : Option ℕ) (s s' : State) (f : Frame)
+    (callers : List Frame)
     (i : Instr)
     (next index named owner k p : ℕ) (n : ℤ) (rest : List Value) → IsStep P pl words size m answer s s' → s.mode ≡ Running → s.frames ≡ f ∷ callers
     → instr_at P f.method f.pc ≡ Some i

@@ -15,15 +15,15 @@ use Rattle.machine_stands.specs.Frames.{FrameWords, stacked}
 use Rattle.machine_stands.specs.StandsFor.{StandsFor, limits_of}
 
 -- the sketch whose stack are the operands and the saved words of the top frame; below these are its local variables, and the words of the other frames
-abbrev pub seen : CostParams → (answers : List (Option ℕ)) → machine.State → FrameWords → List FrameWords → Sketch
+abbrev pub seen : CostParams → (answers : List (Option ℕ)) → machine.MachineState → FrameWords → List FrameWords → Sketch
 seen p answers m w below = begins_row p (sketch_of (length (stacked below) + length w.locals) (length w.operands + 3) answers m)
 
-pub record IsSeen (n : ℕ) (p : CostParams) (answers : List (Option ℕ)) (m : machine.State) (w : FrameWords) (below : List FrameWords) : Type 0 where
+pub record IsSeen (n : ℕ) (p : CostParams) (answers : List (Option ℕ)) (m : machine.MachineState) (w : FrameWords) (below : List FrameWords) : Type 0 where
   pub stands : StandsAt n p m.opcode (seen p answers m w below) (env_of m) m
   pub words : words_of (seen p answers m w below) ≡ w.operands ++ reverse w.saved
   pub deep : (seen p answers m w below).deep ≡ stacked below ++ w.locals
 
 abbrev pub MachinesAreSeen : Type 0
-MachinesAreSeen = (P : Program) (pl : Places) (n size : ℕ) (m : machine.State) (s : State) (p : CostParams) (answers : List (Option ℕ))
+MachinesAreSeen = (P : Program) (pl : Places) (n size : ℕ) (m : machine.MachineState) (s : State) (p : CostParams) (answers : List (Option ℕ))
     (st : StandsFor P pl n size m s)
     → IsWellFormed P (limits_of P pl n size) s → s.mode ≡ Running → p.r ≡ m.port.read → p.w ≡ m.port.write → IsSeen n p answers m st.words st.below

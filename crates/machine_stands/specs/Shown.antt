@@ -22,7 +22,7 @@ abbrev pub advanced : ℕ → Sketch → Sketch
 advanced zero x = x
 advanced (suc k) x = advanced k (record x { jpc = (x.jpc + 1) % 2 ^ 16 })
 
-pub record Shows (P : Program) (pl : Places) (n size : ℕ) (m : machine.State) (s : State) (st : StandsFor P pl n size m s) (p : CostParams)
+pub record Shows (P : Program) (pl : Places) (n size : ℕ) (m : machine.MachineState) (s : State) (st : StandsFor P pl n size m s) (p : CostParams)
     (x : Sketch) : Type 0 where
   pub stands : StandsAt n p m.opcode x (env_of m) m
   -- the operands and the saved words
@@ -44,6 +44,6 @@ pub record Shows (P : Program) (pl : Places) (n size : ℕ) (m : machine.State) 
   pub low : drop 24 x.low ≡ registers_of P pl n size s st.top raised
 
 abbrev pub SketchesShow : Type 0
-SketchesShow = (P : Program) (pl : Places) (n size : ℕ) (m : machine.State) (answer : Option ℕ) (s s' : State) (h : IsStep P pl n size m answer s s')
+SketchesShow = (P : Program) (pl : Places) (n size : ℕ) (m : machine.MachineState) (answer : Option ℕ) (s s' : State) (h : IsStep P pl n size m answer s s')
     (p : CostParams) (answers : List (Option ℕ)) → s.mode ≡ Running
     → p.r ≡ m.port.read → p.w ≡ m.port.write → Shows P pl n size m s h.stands p (seen p answers m h.stands.words h.stands.below)

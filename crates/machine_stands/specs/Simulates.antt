@@ -19,7 +19,7 @@ abbrev pub is_bare : ℕ → Bool
 is_bare op = is_some (shape_of op) || op == return_code
 
 -- The machine stands for s, whose next state is s', and both are well formed.
-pub record IsStep (P : Program) (pl : Places) (n size : ℕ) (m : machine.State) (answer : Option ℕ) (s s' : State) : Type 0 where
+pub record IsStep (P : Program) (pl : Places) (n size : ℕ) (m : machine.MachineState) (answer : Option ℕ) (s s' : State) : Type 0 where
   pub says : Says P pl
   pub stands : StandsFor P pl n size m s
   pub well_formed : IsWellFormed P (limits_of P pl n size) s
@@ -29,10 +29,10 @@ pub record IsStep (P : Program) (pl : Places) (n size : ℕ) (m : machine.State)
 
 -- From each opcode of the family the machine comes to the next state. In a bare image only its opcodes are met.
 abbrev pub Simulates : (family : ℕ → Bool) → Type 0
-Simulates family = (P : Program) (pl : Places) (n size : ℕ) (m : machine.State) (answer : Option ℕ) (s s' : State) → IsStep P pl n size m answer s s'
+Simulates family = (P : Program) (pl : Places) (n size : ℕ) (m : machine.MachineState) (answer : Option ℕ) (s s' : State) → IsStep P pl n size m answer s s'
     → s.mode ≡ Running → IsTrue (family m.opcode) → (P.linked ≡ true) ⊎ IsTrue (is_bare m.opcode) → ComesTo P pl n size m s s'
 
 -- So from the raise routine.
 abbrev pub Unwinds : Type 0
-Unwinds = (P : Program) (pl : Places) (n size : ℕ) (m : machine.State) (answer : Option ℕ) (s s' : State) (p : ℕ) → IsStep P pl n size m answer s s'
+Unwinds = (P : Program) (pl : Places) (n size : ℕ) (m : machine.MachineState) (answer : Option ℕ) (s s' : State) (p : ℕ) → IsStep P pl n size m answer s s'
     → s.mode ≡ Raising p → P.linked ≡ true → ComesTo P pl n size m s s'

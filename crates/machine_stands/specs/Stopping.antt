@@ -27,7 +27,7 @@ pub record SameRest (s s' : State) : Type 0 where
   pub output : s'.output ≡ s.output
 
 -- The row leaves some words above those that the frame saves, and the object that is raised; jpc is past a byte of the instruction.
-pub record RaisesOn (P : Program) (pl : Places) (n size : ℕ) (m : machine.State) (s s' : State) (st : StandsFor P pl n size m s) (i : Instr) (p : ℕ)
+pub record RaisesOn (P : Program) (pl : Places) (n size : ℕ) (m : machine.MachineState) (s s' : State) (st : StandsFor P pl n size m s) (i : Instr) (p : ℕ)
     (f : rows.Raising) : Type 0 where
   pub mode : s'.mode ≡ Raising p
   pub frames : s'.frames ≡ record st.top { operands = [] } ∷ st.callers
@@ -41,14 +41,15 @@ pub record RaisesOn (P : Program) (pl : Places) (n size : ℕ) (m : machine.Stat
 
 -- So the machine comes to the raise routine.
 abbrev pub RaisesCome : Type 0
-RaisesCome = (P : Program) (pl : Places) (n size : ℕ) (m : machine.State) (answer : Option ℕ) (s s' : State) (h : IsStep P pl n size m answer s s') (i : Instr)
+RaisesCome = (P : Program) (pl : Places) (n size : ℕ) (m : machine.MachineState) (answer : Option ℕ) (s s' : State) (h : IsStep P pl n size m answer s s')
+    (i : Instr)
     (p : ℕ) (f : rows.Raising)
     → s.mode ≡ Running → instr_at P h.stands.top.method h.stands.top.pc ≡ Some i → RaisesOn P pl n size m s s' h.stands i p f
     → RunsToRaise n (params m i.count 0) m.opcode f (seen (params m i.count 0) (None ∷ []) m h.stands.words h.stands.below) (env_of m)
     → ComesTo P pl n size m s s'
 
 -- a row that halts with all words as they were, in at most its opcode's cost
-pub record RunsToEnd (n : ℕ) (m : machine.State) (x : Sketch) (pairs : ℕ) : Type 0 where
+pub record RunsToEnd (n : ℕ) (m : machine.MachineState) (x : Sketch) (pairs : ℕ) : Type 0 where
   pub after : Sketch
   pub reaches : Reaches n x after (env_of m)
   pub done : IsDone after
@@ -57,6 +58,7 @@ pub record RunsToEnd (n : ℕ) (m : machine.State) (x : Sketch) (pairs : ℕ) : 
 
 -- So the machine comes to the end.
 abbrev pub EndsCome : Type 0
-EndsCome = (P : Program) (pl : Places) (n size : ℕ) (m : machine.State) (answer : Option ℕ) (s s' : State) (h : IsStep P pl n size m answer s s') (i : Instr)
+EndsCome = (P : Program) (pl : Places) (n size : ℕ) (m : machine.MachineState) (answer : Option ℕ) (s s' : State) (h : IsStep P pl n size m answer s s')
+    (i : Instr)
     → s.mode ≡ Running → instr_at P h.stands.top.method h.stands.top.pc ≡ Some i → s'.mode ≡ Ended → s'.frames ≡ s.frames → SameRest s s'
     → RunsToEnd n m (seen (params m i.count 0) (None ∷ []) m h.stands.words h.stands.below) i.count → ComesTo P pl n size m s s'

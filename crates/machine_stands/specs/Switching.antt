@@ -11,7 +11,7 @@ use Rattle.bytecode_model.specs.declared.Ending.TheVariants.{Running}
 use Rattle.bytecode_model.specs.State.{Frame, State}
 use Rattle.bytecode_model.specs.Program.{Program, Body, body_of, instr_at}
 use Rattle.image_facts.specs.Places.{Places, object_place}
-use Rattle.machine_stands.specs.Frames.{FrameWords, AreFrames, stacked, vp_over}
+use Rattle.machine_stands.specs.Frames.{FrameWords, AreWordsOfFrames, stacked, vp_over}
 use Rattle.machine_stands.specs.Comes.{params, ComesTo}
 use Rattle.machine_stands.specs.Simulates.{IsStep}
 use Rattle.machine_stands.specs.Seen.{seen}
@@ -19,13 +19,13 @@ use Rattle.machine_stands.specs.Again.{registers_of}
 use Rattle.machine_stands.specs.Stopping.{SameRest}
 
 -- the cache, the counts and the loads of a look-up of the method at a place, with these words
-abbrev pub FindsBy : (is_hit : Bool) → (place : ℕ) → (words : List ℕ) → machine.State → Switch → Type 0
+abbrev pub FindsBy : (is_hit : Bool) → (place : ℕ) → (words : List ℕ) → machine.MachineState → Switch → Type 0
 FindsBy true place words m f = (f.cache ≡ m.cache) × (f.hits ≡ (m.hits + 1) % 2 ^ 64) × (f.misses ≡ m.misses) × (f.loads ≡ 0) × (f.loaded ≡ 0)
 FindsBy false place words m f =
     (f.cache ≡ loaded place words m.cache) × (f.hits ≡ m.hits) × (f.misses ≡ (m.misses + 1) % 2 ^ 64) × (f.loads ≡ 1) × (f.loaded ≡ length words)
 
 -- The row makes of the words of the frames those of the frames in s', of which there are more or fewer, and looks up the method of the top one.
-pub record SwitchesOn (P : Program) (pl : Places) (n size : ℕ) (m : machine.State) (s s' : State) (f : Switch) : Type 0 where
+pub record SwitchesOn (P : Program) (pl : Places) (n size : ℕ) (m : machine.MachineState) (s s' : State) (f : Switch) : Type 0 where
   pub top : Frame
   pub callers : List Frame
   pub body : Body
@@ -37,7 +37,7 @@ pub record SwitchesOn (P : Program) (pl : Places) (n size : ℕ) (m : machine.St
   pub other : (length s.frames == length s'.frames) ≡ false
   pub is_body : body_of P top.method ≡ Some body
   pub rest : SameRest s s'
-  pub are_frames : AreFrames P pl (object_place P pl s'.objects) (top ∷ callers) (words ∷ below)
+  pub are_frames : AreWordsOfFrames P pl (object_place P pl s'.objects) (top ∷ callers) (words ∷ below)
   -- what the row makes
   pub stack : f.words ≡ words.operands ++ reverse words.saved
   pub deep : f.deep ≡ stacked below ++ words.locals
@@ -51,7 +51,7 @@ pub record SwitchesOn (P : Program) (pl : Places) (n size : ℕ) (m : machine.St
   pub output : f.output ≡ []
 
 abbrev pub SwitchesCome : Type 0
-SwitchesCome = (P : Program) (pl : Places) (n size : ℕ) (m : machine.State) (answer : Option ℕ) (s s' : State) (h : IsStep P pl n size m answer s s')
+SwitchesCome = (P : Program) (pl : Places) (n size : ℕ) (m : machine.MachineState) (answer : Option ℕ) (s s' : State) (h : IsStep P pl n size m answer s s')
     (i : Instr) (f : Switch)
     → s.mode ≡ Running → instr_at P h.stands.top.method h.stands.top.pc ≡ Some i → SwitchesOn P pl n size m s s' f
     → RunsSwitch n (params m i.count 0) m.opcode f (seen (params m i.count 0) (None ∷ []) m h.stands.words h.stands.below) (env_of m)

@@ -31,10 +31,11 @@ use Rattle.machine_stands.specs.Switching.{FindsBy}
 -- ---- the machine at the raise routine, as a sketch
 
 -- its stack are the words that are left above those that the top frame saves, and these
-abbrev pub seen_raising : CostParams → machine.State → FrameWords → List FrameWords → (left : List ℕ) → Sketch
+abbrev pub seen_raising : CostParams → machine.MachineState → FrameWords → List FrameWords → (left : List ℕ) → Sketch
 seen_raising p m w below left = begins_row p (sketch_of (length (stacked below) + length w.locals) (length left + 3) (None ∷ []) m)
 
-pub record IsSeenRaising (P : Program) (pl : Places) (n size : ℕ) (m : machine.State) (s : State) (st : StandsFor P pl n size m s) (object : ℕ) (p : CostParams)
+pub record IsSeenRaising (P : Program) (pl : Places) (n size : ℕ) (m : machine.MachineState) (s : State) (st : StandsFor P pl n size m s) (object : ℕ)
+    (p : CostParams)
     (x : Sketch) : Type 0 where
   pub same : m ≡ conc n x (env_of m)
   pub shape : Shaped n x
@@ -50,21 +51,21 @@ pub record IsSeenRaising (P : Program) (pl : Places) (n size : ℕ) (m : machine
   pub low : drop 24 x.low ≡ registers_of P pl n size s st.top (object_place P pl s.objects object)
 
 -- with the memory's timing, and as many turns as the method has entries in its exception table
-abbrev pub raise_params : machine.State → Body → CostParams
+abbrev pub raise_params : machine.MachineState → Body → CostParams
 raise_params m b = params m 0 (length b.handlers)
 
-abbrev pub seen_raise : (P : Program) (pl : Places) (n size : ℕ) (m : machine.State) (s : State) → StandsFor P pl n size m s → Sketch
+abbrev pub seen_raise : (P : Program) (pl : Places) (n size : ℕ) (m : machine.MachineState) (s : State) → StandsFor P pl n size m s → Sketch
 seen_raise P pl n size m s st = seen_raising (raise_params m st.body) m st.words st.below st.left
 
 abbrev pub RaisesAreSeen : Type 0
-RaisesAreSeen = (P : Program) (pl : Places) (n size : ℕ) (m : machine.State) (answer : Option ℕ) (s s' : State) (object : ℕ)
+RaisesAreSeen = (P : Program) (pl : Places) (n size : ℕ) (m : machine.MachineState) (answer : Option ℕ) (s s' : State) (object : ℕ)
     (h : IsStep P pl n size m answer s s') → s.mode ≡ Raising object
     → IsSeenRaising P pl n size m s h.stands object (raise_params m h.stands.body) (seen_raise P pl n size m s h.stands)
 
 -- ---- a handler is entered
 
 -- the place of the object is on top of the saved words, and the method is looked up
-pub record HandlesOn (P : Program) (pl : Places) (n size : ℕ) (m : machine.State) (s s' : State) (st : StandsFor P pl n size m s) (object target : ℕ)
+pub record HandlesOn (P : Program) (pl : Places) (n size : ℕ) (m : machine.MachineState) (s s' : State) (st : StandsFor P pl n size m s) (object target : ℕ)
     (x : Sketch) (f : Switch) : Type 0 where
   pub mode : s'.mode ≡ Running
   pub frames : s'.frames ≡ record st.top { pc = target; operands = Ref object ∷ [] } ∷ st.callers
@@ -81,7 +82,7 @@ pub record HandlesOn (P : Program) (pl : Places) (n size : ℕ) (m : machine.Sta
   pub output : f.output ≡ []
 
 abbrev pub HandlersCome : Type 0
-HandlersCome = (P : Program) (pl : Places) (n size : ℕ) (m : machine.State) (answer : Option ℕ) (s s' : State) (object target : ℕ)
+HandlersCome = (P : Program) (pl : Places) (n size : ℕ) (m : machine.MachineState) (answer : Option ℕ) (s s' : State) (object target : ℕ)
     (h : IsStep P pl n size m answer s s') (f : Switch) (y : Sketch) → let x = seen_raise P pl n size m s h.stands in
     s.mode ≡ Raising object → Reaches n x y (env_of m) → IsDone y → Switches f x y → HandlesOn P pl n size m s s' h.stands object target x f
     → ComesTo P pl n size m s s'
@@ -89,7 +90,7 @@ HandlersCome = (P : Program) (pl : Places) (n size : ℕ) (m : machine.State) (a
 -- ---- the frame is dropped
 
 -- y is x at the raise routine, where the caller's frame is the top one, and its operands are left
-pub record DropsOn (P : Program) (pl : Places) (n size : ℕ) (m : machine.State) (s s' : State) (st : StandsFor P pl n size m s) (object : ℕ)
+pub record DropsOn (P : Program) (pl : Places) (n size : ℕ) (m : machine.MachineState) (s s' : State) (st : StandsFor P pl n size m s) (object : ℕ)
     (y : Sketch) : Type 0 where
   pub caller : Frame
   pub others : List Frame
@@ -124,14 +125,15 @@ pub record DropsOn (P : Program) (pl : Places) (n size : ℕ) (m : machine.State
   pub loaded : y.words ≡ 0
 
 abbrev pub DropsCome : Type 0
-DropsCome = (P : Program) (pl : Places) (n size : ℕ) (m : machine.State) (answer : Option ℕ) (s s' : State) (object : ℕ) (h : IsStep P pl n size m answer s s')
+DropsCome = (P : Program) (pl : Places) (n size : ℕ) (m : machine.MachineState) (answer : Option ℕ) (s s' : State) (object : ℕ)
+    (h : IsStep P pl n size m answer s s')
     (y : Sketch) → let x = seen_raise P pl n size m s h.stands in
     s.mode ≡ Raising object → Reaches n x y (env_of m) → IsDone y → DropsOn P pl n size m s s' h.stands object y → ComesTo P pl n size m s s'
 
 -- ---- none caught it
 
 abbrev pub UncaughtCome : Type 0
-UncaughtCome = (P : Program) (pl : Places) (n size : ℕ) (m : machine.State) (answer : Option ℕ) (s s' : State) (object c : ℕ) (o : Object)
+UncaughtCome = (P : Program) (pl : Places) (n size : ℕ) (m : machine.MachineState) (answer : Option ℕ) (s s' : State) (object c : ℕ) (o : Object)
     (h : IsStep P pl n size m answer s s') (y : Sketch) → let x = seen_raise P pl n size m s h.stands in
     s.mode ≡ Raising object → Reaches n x y (env_of m) → IsDone y → Halts halts.Uncaught x y → s'.mode ≡ Uncaught c → s'.frames ≡ s.frames → SameRest s s'
     → slice_get s.objects object ≡ Some o → kind_of P o ≡ Some (OfClass c) → ComesTo P pl n size m s s'

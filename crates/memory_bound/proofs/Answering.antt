@@ -17,7 +17,7 @@ use Rattle.memory_rules.specs.declared.needs.Need.{Need}
 use Rattle.memory_rules.specs.Stack.{IsStackNeedOf}
 use Rattle.memory_rules.specs.Heap.{OfMethod, IsMostMade}
 use Rattle.memory_bound.specs.declared.found.Found.{Found}
-use Rattle.memory_bound.specs.Found.{IsFoundOf, found_at}
+use Rattle.memory_bound.specs.Found.{IsMemoryFoundOf, found_at}
 use Rattle.memory_bound.specs.Causes.{IsCallFault, IsNeedFault}
 use Rattle.memory_bound.specs.Needs.{IsShapeFaultOf, IsShapesFault, NoneLacksBound, NoneLacksLength, NoneTooLarge, HaveNoCause, IsFoundFault, IsNeedOf, IsFaultIn}
 use Rattle.memory_bound.proofs.Ordered.{stands_before}
@@ -93,11 +93,11 @@ module _ (P : Program) (bounds lengths : BoundOf) where
 -- ---- the need, where it is found of each method what it makes
 
 module _ (P : Program) (bounds lengths : BoundOf) (table : List Found) (ms order : List ℕ) (first : IsTargetsFirst P P.boot order) (moved : IsPermutation order ms)
-    (found : (x : ℕ) → Contains order x → IsFoundOf P bounds lengths x (found_at table x)) where
+    (found : (x : ℕ) → Contains order x → IsMemoryFoundOf P bounds lengths x (found_at table x)) where
   are : (x : ℕ) → Contains ms x ↔ IsWithin P P.boot x
   are = methods_are (IsWithin P P.boot) order ms first.methods moved
 
-  found_of : (x : ℕ) → Contains ms x → IsFoundOf P bounds lengths x (found_at table x)
+  found_of : (x : ℕ) → Contains ms x → IsMemoryFoundOf P bounds lengths x (found_at table x)
   found_of x has = found x ((first.methods.each x).1 ((are x).0 has))
 
   pub need_of_found : HaveNoCause table ms → (n : Need) → IsStackNeedOf P P.boot n.stack → n.heap ≡ unwrap_or (found_at table P.boot).heap 0 → IsNeedOf P bounds lengths n

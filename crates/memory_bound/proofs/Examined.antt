@@ -19,7 +19,7 @@ use Rattle.memory_bound.specs.declared.found.Found.{Found}
 use Rattle.memory_bound.specs.declared.shapes.Shape.{Shape}
 use Rattle.memory_bound.specs.HeapLaws.{AreHeapLaws}
 use Rattle.memory_bound.specs.Shapes.{node_of, headers_in, IsShapeOf}
-use Rattle.memory_bound.specs.Found.{AreFound, HaveBoundsWithin, KnowMaking, LacksBound, IsFoundOf, IsMostOr, found_at, unknown}
+use Rattle.memory_bound.specs.Found.{AreFound, HaveBoundsWithin, KnowMaking, LacksLoopBound, IsMemoryFoundOf, IsMostOr, found_at, unknown}
 use Rattle.memory_bound.specs.Lengths.{IsFirstAmong}
 use Rattle.memory_bound.specs.Loops.{header_in, AreMakingLoops, AreMakingBounds, AreLoopsFound, IsFirstWithout, bounds_of_loops}
 use Rattle.memory_bound.proofs.Compacting.{is_moved, nest_out}
@@ -48,13 +48,13 @@ module _ (laws : AreHeapLaws) (P : Program) (m : ℕ) (s : Shape) (of : IsShapeO
 
   -- the first loop without a bound
   pub first_unbounded_is : (bounds : BoundOf) (making : List Bool) → AreMakingLoops P m s making → (o : Option ℕ) → IsFirstWithout making (bounds_of_loops bounds m s) (headers_in s) o
-      → IsLeast (LacksBound P bounds m) o
+      → IsLeast (LacksLoopBound P bounds m) o
   first_unbounded_is bounds making are o first = least_unbounded laws.moves laws.nests laws.one P m s of laws.instructions bounds making are headers_rise o first
 
   -- what is found of a method of this shape
   pub found_by_shape : (bounds lengths : BoundOf) (x : Found) → (IsTrue x.makes ↔ ((p : ℕ) × Contains s.nodes (2 * p) × PlaceMakesObjects P m p))
       → (making : List Bool) → AreMakingLoops P m s making → IsFirstWithout making (bounds_of_loops bounds m s) (headers_in s) x.unbounded
-      → IsFirstAmong P lengths m s.nodes x.unlimited → (HaveBoundsWithin P bounds m → IsMostOr P bounds lengths (OfMethod m) x.heap) → IsFoundOf P bounds lengths m x
+      → IsFirstAmong P lengths m s.nodes x.unlimited → (HaveBoundsWithin P bounds m → IsMostOr P bounds lengths (OfMethod m) x.heap) → IsMemoryFoundOf P bounds lengths m x
   found_by_shape bounds lengths x makes making are first among heap = record {
     makes = makes_is laws.one P m s of x.makes makes;
     unbounded = first_unbounded_is bounds making are x.unbounded first;
@@ -66,14 +66,14 @@ module _ (laws : AreHeapLaws) (P : Program) (m : ℕ) (s : Shape) (of : IsShapeO
 
 -- of a method of the order it is found what all tell that it may call
 pub found_more : (P : Program) (bounds lengths : BoundOf) (order : List ℕ) (table : List Found) (i m : ℕ) (x : Found) → IsTargetsFirst P P.boot order → i < length order → m ≡ get_or order i 0
-    → m < length table → ((y : ℕ) → Contains (take i order) y → IsFoundOf P bounds lengths y (found_at table y)) → (AreFound P bounds lengths table m → IsFoundOf P bounds lengths m x)
-    → (y : ℕ) → Contains (take (i + 1) order) y → IsFoundOf P bounds lengths y (found_at (set table m x) y)
+    → m < length table → ((y : ℕ) → Contains (take i order) y → IsMemoryFoundOf P bounds lengths y (found_at table y)) → (AreFound P bounds lengths table m → IsMemoryFoundOf P bounds lengths m x)
+    → (y : ℕ) → Contains (take (i + 1) order) y → IsMemoryFoundOf P bounds lengths y (found_at (set table m x) y)
 found_more P bounds lengths order table i m x first lt at below before here y has =
     elim (cases_eq y m) [
       | inl same ↦
-          let new : IsFoundOf P bounds lengths m (found_at (set table m x) m) = subst (λ (f : Found). IsFoundOf P bounds lengths m f) (sym (get_or-set_same table m x unknown below)) (here called) in
-          subst (λ (z : ℕ). IsFoundOf P bounds lengths z (found_at (set table m x) z)) (sym same) new
-      | inr other ↦ subst (λ (f : Found). IsFoundOf P bounds lengths y f) (sym (get_or-set_other table m y x unknown other)) (before y (front other))
+          let new : IsMemoryFoundOf P bounds lengths m (found_at (set table m x) m) = subst (λ (f : Found). IsMemoryFoundOf P bounds lengths m f) (sym (get_or-set_same table m x unknown below)) (here called) in
+          subst (λ (z : ℕ). IsMemoryFoundOf P bounds lengths z (found_at (set table m x) z)) (sym same) new
+      | inr other ↦ subst (λ (f : Found). IsMemoryFoundOf P bounds lengths y f) (sym (get_or-set_other table m y x unknown other)) (before y (front other))
     ]
   where
     called : AreFound P bounds lengths table m

@@ -12,7 +12,7 @@ use Rattle.memory_rules.specs.Heap.{IsOn, MakesObjects, PlaceMakesObjects}
 use Rattle.memory_rules.specs.Heap.MakesObjects.{itself, calling}
 use Rattle.memory_bound.specs.declared.shapes.Shape.{Shape}
 use Rattle.memory_bound.specs.Shapes.{node_of, IsShapeOf}
-use Rattle.memory_bound.specs.Found.{HasLength, IsFirstUnlimitedOf}
+use Rattle.memory_bound.specs.Found.{HasArrayLength, IsFirstUnlimitedOf}
 use Rattle.memory_bound.specs.Lengths.{AreOn, IsFirstAmong}
 use Rattle.memory_bound.proofs.Compacting.{reached_out}
 
@@ -50,7 +50,7 @@ module _ (one : GraphsAreOne) (P : Program) (m : ℕ) (s : Shape) (of : IsShapeO
 
   module _ (lengths : BoundOf) where
     -- an instruction that isn't reached makes no arrays
-    elsewhere : (p : ℕ) → (Contains s.nodes (2 * p) → HasLength P lengths m p) → HasLength P lengths m p
+    elsewhere : (p : ℕ) → (Contains s.nodes (2 * p) → HasArrayLength P lengths m p) → HasArrayLength P lengths m p
     elsewhere p h arrays = h (is_on arrays.graph p arrays.on) arrays
 
     pub first_unlimited_is : (o : Option ℕ) → IsFirstAmong P lengths m s.nodes o → IsFirstUnlimitedOf P lengths m o

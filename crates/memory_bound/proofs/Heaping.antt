@@ -14,7 +14,7 @@ use Rattle.memory_bound.specs.declared.found.Found.{Found}
 use Rattle.memory_bound.specs.declared.shapes.Shape.{Shape}
 use Rattle.memory_bound.specs.HeapLaws.{AreHeapLaws}
 use Rattle.memory_bound.specs.Shapes.{node_of, IsShapeOf}
-use Rattle.memory_bound.specs.Found.{AreFound, AreStarts, HaveBoundsWithin, Exceeds, IsMostOr, KnowHeaps}
+use Rattle.memory_bound.specs.Found.{AreFound, BeginInstructions, HaveBoundsWithin, Exceeds, IsMostOr, KnowHeaps}
 use Rattle.memory_bound.specs.Loops.{AreBoundsOf}
 use Rattle.memory_bound.specs.Words.{AreNodeWords, SomeExceeds}
 use Rattle.memory_bound.proofs.Compacting.{reached_out}
@@ -27,7 +27,7 @@ if_ok_as (Ok x) P Q h as' = as' x h
 if_ok_as (Err e) P Q h as' = h
 
 -- the instructions among the nodes of a shape begin at starts
-pub shape_starts : (P : Program) (m : ℕ) (s : Shape) → ReachesStarts P m → IsShapeOf P m s → AreStarts P m s.nodes
+pub shape_starts : (P : Program) (m : ℕ) (s : Shape) → ReachesStarts P m → IsShapeOf P m s → BeginInstructions P m s.nodes
 shape_starts P m s starts of p has =
     let lt = has.1 in
     let long = of.shape.long in

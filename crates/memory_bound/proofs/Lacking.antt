@@ -15,7 +15,7 @@ use Rattle.memory_rules.specs.Heap.{Made, AnObject, AnArray, made_by}
 use Rattle.memory_rules.specs.Given.{MakesArrays}
 use Rattle.memory_rules.specs.Sites.{MethodNeeds, IsMadeAt, IsToldAs, IsSiteOf, AreNeedsOf, AreSitesOf}
 use Rattle.memory_bound.specs.Setting.{NeedSetting, sites_of}
-use Rattle.memory_bound.specs.Found.{HasLength, IsUnlimited}
+use Rattle.memory_bound.specs.Found.{HasArrayLength, IsUnlimited}
 use Rattle.memory_bound.specs.Lengths.{AreOn, IsFirstAmong, IsReachedIn, TellsLength, TellsNode, lacks_constant}
 use Rattle.memory_bound.proofs.Sited.{has_needs, made_in}
 
@@ -31,13 +31,13 @@ module _ (P : Program) (lengths : BoundOf) (m p : ℕ) (k : MethodNeeds) (needs 
       subst (λ (x : Made). IsToldAs P m p x told) (sym made) site.told
 
   -- one that makes no arrays, or whose arrays have a constant length
-  no_site : IsMadeAt k.sites p None → HasLength P lengths m p
+  no_site : IsMadeAt k.sites p None → HasArrayLength P lengths m p
   no_site none arrays = absurd (none (needs.each p arrays.next arrays.row (AnArray arrays.element) arrays.line arrays.makes))
 
-  object_site : (words : ℕ) → Contains k.sites (record { place = p; makes = Object words }) → HasLength P lengths m p
+  object_site : (words : ℕ) → Contains k.sites (record { place = p; makes = Object words }) → HasArrayLength P lengths m p
   object_site words has arrays = absurd (array_told (Object words) has arrays)
 
-  constant_site : (element : ℕ) (c : ℤ) → Contains k.sites (record { place = p; makes = Array element (Some c) }) → HasLength P lengths m p
+  constant_site : (element : ℕ) (c : ℤ) → Contains k.sites (record { place = p; makes = Array element (Some c) }) → HasArrayLength P lengths m p
   constant_site element c has arrays = inl (c, (array_told (Array element (Some c)) has arrays).1)
 
   -- one whose arrays have none
@@ -60,10 +60,10 @@ module _ (P : Program) (lengths : BoundOf) (m p : ℕ) (k : MethodNeeds) (needs 
 
 module _ (P : Program) (s : NeedSetting) (lengths : BoundOf) (m p : ℕ) (flow : IsFlowOf P s.flow) (sites : AreSitesOf P s.sites) (lt : m < length s.flow.methods) (o : Option Makes)
     (is : IsMadeAt (sites_of s m) p o) where
-  pub has_length : lacks_constant o ≡ false → HasLength P lengths m p
+  pub has_length : lacks_constant o ≡ false → HasArrayLength P lengths m p
   has_length constant = let h = has_needs P s m flow sites lt in by h.needs h.are o (made_in P s m p h o is) constant
     where
-      by : (k : MethodNeeds) → AreNeedsOf P m k → (o : Option Makes) → IsMadeAt k.sites p o → lacks_constant o ≡ false → HasLength P lengths m p
+      by : (k : MethodNeeds) → AreNeedsOf P m k → (o : Option Makes) → IsMadeAt k.sites p o → lacks_constant o ≡ false → HasArrayLength P lengths m p
       by k needs None none constant = no_site P lengths m p k needs none
       by k needs (Some (Object words)) has constant = object_site P lengths m p k needs words has
       by k needs (Some (Array element (Some c))) has constant = constant_site P lengths m p k needs element c has
@@ -84,12 +84,12 @@ pub node_by_place : (P : Program) (lengths : BoundOf) (m u : ℕ) (b : Bool) →
 node_by_place P lengths m u true half tells = (u / 2, half, tells)
 node_by_place P lengths m u false half tells = λ p e.
     let same : u / 2 ≡ p = omega arith in
-    subst (λ (q : ℕ). HasLength P lengths m q) same tells
+    subst (λ (q : ℕ). HasArrayLength P lengths m q) same tells
 
 pub node_on : (P : Program) (m : ℕ) (nodes : List ℕ) → AreOn P m nodes → (i : ℕ) → i < length nodes → (p : ℕ) → 2 * p ≡ get_or nodes i 0 → IsReachedIn P m p
 node_on P m nodes on i lt p e = on p (contains_at nodes i (2 * p) lt (sym e))
 
-module _ (P : Program) (lengths : BoundOf) (m : ℕ) (nodes : List ℕ) (i : ℕ) (before : (k : ℕ) → k < i → (p : ℕ) → 2 * p ≡ get_or nodes k 0 → HasLength P lengths m p) where
+module _ (P : Program) (lengths : BoundOf) (m : ℕ) (nodes : List ℕ) (i : ℕ) (before : (k : ℕ) → k < i → (p : ℕ) → 2 * p ≡ get_or nodes k 0 → HasArrayLength P lengths m p) where
   -- the node at the index is the first
   pub first_here : IsStrictlyIncreasing nodes → i < length nodes → (h u : ℕ) → h ≡ u / 2 → u ≡ get_or nodes i 0 → TellsNode P lengths m u true → IsFirstAmong P lengths m nodes (Some h)
   first_here rising lt h u half at (p, e, lacks) =

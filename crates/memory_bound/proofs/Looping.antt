@@ -15,7 +15,7 @@ use Rattle.memory_rules.specs.Heap.{PlaceMakesObjects}
 use Rattle.memory_bound.specs.declared.shapes.Shape.{Shape}
 use Rattle.memory_bound.specs.HeapLaws.{AreHeapLaws}
 use Rattle.memory_bound.specs.Shapes.{node_of, members_in, IsShapeIn, IsShapeOf}
-use Rattle.memory_bound.specs.Found.{AreStarts}
+use Rattle.memory_bound.specs.Found.{BeginInstructions}
 use Rattle.memory_bound.specs.Loops.{AreMakingLoops}
 use Rattle.memory_bound.proofs.SameEdges.{member_as}
 use Rattle.memory_bound.proofs.Compacting.{edge_out, edge_in}
@@ -63,8 +63,8 @@ one_more_loop ls making i l b Holds long is here before k x lt at =
           subst (λ (v : Bool). Holds x v) (sym (get_or_push making b false k (omega arith))) (subst (λ (y : NaturalLoop). Holds y b) same_loop here)
     ]
 
-module _ (laws : AreHeapLaws) (P : Program) (m : ℕ) (s : Shape) (of : IsShapeOf P m s) (starts : AreStarts P m s.nodes) (making : List Bool)
-    (each : (k : ℕ) (x : NaturalLoop) → k < length s.nest → slice_get s.nest k ≡ Some x → AreStarts P m (members_in s.nodes x)
+module _ (laws : AreHeapLaws) (P : Program) (m : ℕ) (s : Shape) (of : IsShapeOf P m s) (starts : BeginInstructions P m s.nodes) (making : List Bool)
+    (each : (k : ℕ) (x : NaturalLoop) → k < length s.nest → slice_get s.nest k ≡ Some x → BeginInstructions P m (members_in s.nodes x)
     → IsTrue (slice_index_or making k false) ↔ ((p : ℕ) × Contains (members_in s.nodes x) (2 * p) × PlaceMakesObjects P m p)) where
   pub making_loops_are : AreMakingLoops P m s making
   making_loops_are = making_is laws.moves laws.nests laws.one P m s of making tells
@@ -74,19 +74,19 @@ module _ (laws : AreHeapLaws) (P : Program) (m : ℕ) (s : Shape) (of : IsShapeO
           let l : NaturalLoop = get_or s.nest i no_loop in
           let same : members_at s.nest i ≡ l.members = members_of s.nest i no_loop lt in
           let there = each i l lt (slice_get-get_or s.nest i no_loop lt) in
-          let K : List ℕ → Type 0 = λ ms. AreStarts P m (map (node_of s) ms) → IsTrue (slice_index_or making i false) ↔ ((p : ℕ) × Contains (map (node_of s) ms) (2 * p) × PlaceMakesObjects P m p) in
+          let K : List ℕ → Type 0 = λ ms. BeginInstructions P m (map (node_of s) ms) → IsTrue (slice_index_or making i false) ↔ ((p : ℕ) × Contains (map (node_of s) ms) (2 * p) × PlaceMakesObjects P m p) in
           let told = subst K (sym same) there in
           told (member_starts laws.moves laws.nests laws.one P m s of starts i lt)
 
 -- the same by the items of a loop over the nest
-pub making_items_are : AreHeapLaws → (P : Program) (m : ℕ) (s : Shape) → IsShapeOf P m s → AreStarts P m s.nodes → (making : List Bool) (ns : List ℕ) (ls : List NaturalLoop) (i : ℕ) → ns ≡ s.nodes → ls ≡ s.nest
+pub making_items_are : AreHeapLaws → (P : Program) (m : ℕ) (s : Shape) → IsShapeOf P m s → BeginInstructions P m s.nodes → (making : List Bool) (ns : List ℕ) (ls : List NaturalLoop) (i : ℕ) → ns ≡ s.nodes → ls ≡ s.nest
     → length ls ≤ i
-    → ((k : ℕ) (x : NaturalLoop) → k < i → slice_get ls k ≡ Some x → AreStarts P m (members_in ns x)
+    → ((k : ℕ) (x : NaturalLoop) → k < i → slice_get ls k ≡ Some x → BeginInstructions P m (members_in ns x)
     → IsTrue (slice_index_or making k false) ↔ ((p : ℕ) × Contains (members_in ns x) (2 * p) × PlaceMakesObjects P m p))
     → AreMakingLoops P m s making
 making_items_are laws P m s of starts making ns ls i same_nodes same_loops end all =
     making_loops_are laws P m s of starts making
-    (subst (λ (us : List ℕ). (k : ℕ) (x : NaturalLoop) → k < length s.nest → slice_get s.nest k ≡ Some x → AreStarts P m (members_in us x)
+    (subst (λ (us : List ℕ). (k : ℕ) (x : NaturalLoop) → k < length s.nest → slice_get s.nest k ≡ Some x → BeginInstructions P m (members_in us x)
     → IsTrue (slice_index_or making k false) ↔ ((p : ℕ) × Contains (members_in us x) (2 * p) × PlaceMakesObjects P m p)) same_nodes
-    (subst (λ (ks : List NaturalLoop). (k : ℕ) (x : NaturalLoop) → k < length ks → slice_get ks k ≡ Some x → AreStarts P m (members_in ns x)
+    (subst (λ (ks : List NaturalLoop). (k : ℕ) (x : NaturalLoop) → k < length ks → slice_get ks k ≡ Some x → BeginInstructions P m (members_in ns x)
     → IsTrue (slice_index_or making k false) ↔ ((p : ℕ) × Contains (members_in ns x) (2 * p) × PlaceMakesObjects P m p)) same_loops (λ k x lt at. all k x (omega arith) at)))

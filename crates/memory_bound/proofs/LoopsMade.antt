@@ -19,7 +19,7 @@ use Rattle.compact_walks.proofs.Loops.{header_of, members_of, headers_moved, mem
 use Rattle.memory_rules.specs.Heap.{LoopMakesObjects, PlaceMakesObjects}
 use Rattle.memory_bound.specs.declared.shapes.Shape.{Shape}
 use Rattle.memory_bound.specs.Shapes.{node_of, headers_in, IsShapeOf}
-use Rattle.memory_bound.specs.Found.{AreStarts, LacksBound}
+use Rattle.memory_bound.specs.Found.{BeginInstructions, LacksLoopBound}
 use Rattle.memory_bound.specs.Loops.{header_in, AreMakingLoops, LacksAt, IsFirstWithout, bounds_of_loops}
 use Rattle.memory_bound.proofs.Bounding.{header_bound_at}
 use Rattle.memory_bound.proofs.Compacting.{own_nest, nest_out, header_out, members_out, is_moved}
@@ -55,7 +55,7 @@ module _ (moves : GraphsAreMoved) (nests : MovedIsNest) (one : GraphsAreOne) (P 
       )
 
   -- the members of a loop are nodes of the shape
-  pub member_starts : AreStarts P m s.nodes → (i : ℕ) → i < length s.nest → AreStarts P m (map (node_of s) (members_at s.nest i))
+  pub member_starts : BeginInstructions P m s.nodes → (i : ℕ) → i < length s.nest → BeginInstructions P m (map (node_of s) (members_at s.nest i))
   member_starts starts i lt p has =
       let r = from_map (node_of s) (members_at s.nest i) (2 * p) has in
       let below = loop_members of.graph of.shape.compact (node_of s) moved s.nest (own_nest of.graph s of.shape nests moved) i lt r.0 r.1 in
@@ -81,7 +81,7 @@ module _ (moves : GraphsAreMoved) (nests : MovedIsNest) (one : GraphsAreOne) (P 
         get_or-map (header_bound bounds m) (headers_in s) i 0 None (omega (arith, headers_long)) ∙ ap (header_bound bounds m) at ∙ header_bound_at bounds m p
 
     -- a loop that makes objects and has no bound is one of the list
-    listed : (p : ℕ) → LacksBound P bounds m p → (i : ℕ) × (i < length s.nest) × (header_in s i ≡ 2 * p) × LacksAt making (bounds_of_loops bounds m s) i
+    listed : (p : ℕ) → LacksLoopBound P bounds m p → (i : ℕ) × (i < length s.nest) × (header_in s i ≡ 2 * p) × LacksAt making (bounds_of_loops bounds m s) i
     listed p lacks =
         let h = lacks.0 in
         let same : h.graph ≡ of.graph = one P m h.graph of.graph h.is_graph of.is_graph in
@@ -95,21 +95,21 @@ module _ (moves : GraphsAreMoved) (nests : MovedIsNest) (one : GraphsAreOne) (P 
         (in_moved.0, lt, at, (flagged, bound_is in_moved.0 p lt at ∙ lacks.1))
 
     -- and one of the list lacks it
-    lacking : (i p : ℕ) → i < length s.nest → header_in s i ≡ 2 * p → LacksAt making (bounds_of_loops bounds m s) i → LacksBound P bounds m p
+    lacking : (i p : ℕ) → i < length s.nest → header_in s i ≡ 2 * p → LacksAt making (bounds_of_loops bounds m s) i → LacksLoopBound P bounds m p
     lacking i p lt at lacks =
         let header : IsHeader of.graph (2 * p) = subst (λ (x : ℕ). IsHeader of.graph x) (sym (header_is i lt) ∙ at) (header_out of.graph s of.shape nests moved i lt) in
         let made : LoopMakesObjects P m of.graph (2 * p) = subst (λ (x : ℕ). LoopMakesObjects P m of.graph x) at ((are of.graph of.is_graph i lt).0 lacks.0) in
         (record { graph = of.graph; is_graph = of.is_graph; header = header; makes = made }, sym (bound_is i p lt at) ∙ lacks.1)
 
     -- the first of the list is the least
-    pub least_unbounded : ((i k : ℕ) → i < k → k < length s.nest → header_in s i < header_in s k) → (o : Option ℕ) → IsFirstWithout making (bounds_of_loops bounds m s) (headers_in s) o → IsLeast (LacksBound P bounds m) o
+    pub least_unbounded : ((i k : ℕ) → i < k → k < length s.nest → header_in s i < header_in s k) → (o : Option ℕ) → IsFirstWithout making (bounds_of_loops bounds m s) (headers_in s) o → IsLeast (LacksLoopBound P bounds m) o
     least_unbounded rising None none = λ p lacks. let r = listed p lacks in none r.0 (let lt = r.1 in omega (arith, headers_long)) r.3
     least_unbounded rising (Some p) first =
         let i = first.0 in
         let lt : first.0 < length s.nest = (let below = first.1 in omega (arith, headers_long)) in
         let h = place_of_header first.0 lt in
         let half : p ≡ h.0 = (let e = first.3 in let at = h.1 in omega arith) in (
-          subst (λ (q : ℕ). LacksBound P bounds m q) (sym half) (lacking first.0 h.0 lt h.1 first.2),
+          subst (λ (q : ℕ). LacksLoopBound P bounds m q) (sym half) (lacking first.0 h.0 lt h.1 first.2),
           λ q less lacks.
               let r = listed q lacks in
               let before : r.0 < first.0 = earlier r.0 first.0 r.1 lt (let a = r.2 in let b = h.1 in omega arith) in

@@ -30,7 +30,7 @@ use Rattle.memory_rules.specs.Heap.{LoopMakesObjects, KeepsMaking, Part, OfMetho
 use Rattle.memory_rules.specs.Heap.MayMake.{stops, nowhere, visits, nothing, makes, runs}
 use Rattle.memory_bound.specs.declared.shapes.Shape.{Shape}
 use Rattle.memory_bound.specs.Shapes.{node_of, headers_in, IsShapeOf}
-use Rattle.memory_bound.specs.Found.{HasBounds, Exceeds}
+use Rattle.memory_bound.specs.Found.{HasLoopBounds, Exceeds}
 use Rattle.memory_bound.specs.Loops.{header_in, AreBoundsOf, bounds_of_loops}
 use Rattle.memory_bound.specs.Words.{AreNodeWords, SomeExceeds}
 use Rattle.memory_bound.proofs.Keeping.{all_from_contains}
@@ -145,7 +145,7 @@ module _ (P : Program) (bounds lengths : BoundOf) where
 -- ---- the loops of a method
 
 module _ (moves : GraphsAreMoved) (nests : MovedIsNest) (one : GraphsAreOne) (instructions : HeadersAreInstructions) (P : Program) (bounds lengths : BoundOf) (m : ℕ) (s : Shape) (of : IsShapeOf P m s)
-    (has : HasBounds P bounds m) (found : List ℕ) (are : AreBoundsOf P bounds m s found) where
+    (has : HasLoopBounds P bounds m) (found : List ℕ) (are : AreBoundsOf P bounds m s found) where
   moved : IsMoved of.graph of.shape.compact (node_of s)
   moved = is_moved moves P m s of
 

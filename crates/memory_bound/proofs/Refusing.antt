@@ -12,7 +12,7 @@ use Rattle.memory_rules.specs.declared.causes.NeedFault.TheVariants.{Recursion, 
 use Rattle.memory_rules.specs.Heap.{OfMethod, IsMostMade}
 use Rattle.memory_rules.specs.Given.{IsFirstLackingLine, LacksLength, IsFirstLackingLength, HaveLengths, HaveMakingLines}
 use Rattle.memory_bound.specs.declared.found.Found.{Found}
-use Rattle.memory_bound.specs.Found.{LacksBound, HasLength, IsFirstUnlimitedOf, HaveBoundsWithin, Exceeds, IsMostOr, IsFoundOf, found_at}
+use Rattle.memory_bound.specs.Found.{LacksLoopBound, HasArrayLength, IsFirstUnlimitedOf, HaveBoundsWithin, Exceeds, IsMostOr, IsMemoryFoundOf, found_at}
 use Rattle.memory_bound.specs.Causes.{NeedIsTooLarge}
 use Rattle.memory_bound.specs.Needs.{IsSmall, NoneLacksBound, NoneLacksLength, HaveNoCause, IsFoundFault, IsFaultIn}
 
@@ -22,14 +22,14 @@ within_on itself k = k
 within_on (calls p start call target h) k = calls p start call target (within_on h k)
 
 module _ (P : Program) (bounds lengths : BoundOf) (table : List Found) (ms : List ℕ) (are : (x : ℕ) → (Contains ms x → IsWithin P P.boot x) × (IsWithin P P.boot x → Contains ms x))
-    (found : (x : ℕ) → Contains ms x → IsFoundOf P bounds lengths x (found_at table x)) where
-  no_bound_lacks : (x : ℕ) → Contains ms x → (found_at table x).unbounded ≡ None → (p : ℕ) → LacksBound P bounds x p → ⊥
-  no_bound_lacks x has none p lacks = subst (λ (o : Option ℕ). IsLeast (LacksBound P bounds x) o) none (found x has).unbounded p lacks
+    (found : (x : ℕ) → Contains ms x → IsMemoryFoundOf P bounds lengths x (found_at table x)) where
+  no_bound_lacks : (x : ℕ) → Contains ms x → (found_at table x).unbounded ≡ None → (p : ℕ) → LacksLoopBound P bounds x p → ⊥
+  no_bound_lacks x has none p lacks = subst (λ (o : Option ℕ). IsLeast (LacksLoopBound P bounds x) o) none (found x has).unbounded p lacks
 
-  no_length_lacks : (x : ℕ) → Contains ms x → (found_at table x).unlimited ≡ None → (p : ℕ) → HasLength P lengths x p
+  no_length_lacks : (x : ℕ) → Contains ms x → (found_at table x).unlimited ≡ None → (p : ℕ) → HasArrayLength P lengths x p
   no_length_lacks x has none p = subst (λ (o : Option ℕ). IsFirstUnlimitedOf P lengths x o) none (found x has).unlimited p
 
-  not_lacking : (x p : ℕ) → HasLength P lengths x p → LacksLength P lengths x p → ⊥
+  not_lacking : (x p : ℕ) → HasArrayLength P lengths x p → LacksLength P lengths x p → ⊥
   not_lacking x p h lacks =
       elim (h lacks.arrays) [
         | inl c ↦ lacks.no_constant c.0 c.1
@@ -65,13 +65,13 @@ module _ (P : Program) (bounds lengths : BoundOf) (table : List Found) (ms : Lis
 
   first_line : (m p : ℕ) → Contains ms m → (found_at table m).unbounded ≡ Some p → ((x : ℕ) → Contains ms x → x < m → (found_at table x).unbounded ≡ None) → IsFirstLackingLine P bounds m p
   first_line m p has is first =
-      let least : IsLeast (LacksBound P bounds m) (Some p) = subst (λ (o : Option ℕ). IsLeast (LacksBound P bounds m) o) is (found m has).unbounded in
+      let least : IsLeast (LacksLoopBound P bounds m) (Some p) = subst (λ (o : Option ℕ). IsLeast (LacksLoopBound P bounds m) o) is (found m has).unbounded in
       record {
         lacks = record { within = (are m).0 has; heads = least.0.0; none = least.0.1 };
         first = λ x q before lacks.
             elim before [
               | inl lt ↦ let there = (are x).1 lacks.within in no_bound_lacks x there (first x there lt) q (lacks.heads, lacks.none)
-              | inr at ↦ least.1 q at.1 (subst (λ (z : ℕ). LacksBound P bounds z q) at.0 (lacks.heads, lacks.none))
+              | inr at ↦ least.1 q at.1 (subst (λ (z : ℕ). LacksLoopBound P bounds z q) at.0 (lacks.heads, lacks.none))
             ];
       }
 

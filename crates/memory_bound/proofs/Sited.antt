@@ -15,7 +15,7 @@ use Rattle.memory_rules.specs.Heap.{MakesAt, PlaceMakesObjects}
 use Rattle.memory_rules.specs.Sites.{MethodNeeds, IsMadeAt, AreNeedsOf, AreSitesOf}
 use Rattle.memory_bound.specs.declared.found.Found.{Found}
 use Rattle.memory_bound.specs.Setting.{NeedSetting, sites_of}
-use Rattle.memory_bound.specs.Found.{AreStarts, KnowMaking, found_at}
+use Rattle.memory_bound.specs.Found.{BeginInstructions, KnowMaking, found_at}
 
 -- ---- the sites of a method
 
@@ -80,7 +80,7 @@ called_make P m p start table known targets are none b both = (
 -- ---- nodes
 
 -- the place of a node of the list
-pub node_start : (P : Program) (m : ℕ) (nodes : List ℕ) → AreStarts P m nodes → (i : ℕ) → i < length nodes → (p : ℕ) → 2 * p ≡ get_or nodes i 0 → IsStartOf P m p
+pub node_start : (P : Program) (m : ℕ) (nodes : List ℕ) → BeginInstructions P m nodes → (i : ℕ) → i < length nodes → (p : ℕ) → 2 * p ≡ get_or nodes i 0 → IsStartOf P m p
 node_start P m nodes starts i lt p e = starts p (contains_at nodes i (2 * p) lt (sym e))
 
 -- whether an instruction does at a node is whether the node does

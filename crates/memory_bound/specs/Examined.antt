@@ -6,7 +6,7 @@ use Rattle.bound_rules.specs.Bounding.{IsLeftWith}
 use Rattle.call_regions.specs.Calling.{IsTargetsFirst}
 use Rattle.memory_bound.specs.declared.found.Found.{Found}
 use Rattle.memory_bound.specs.Setting.{NeedSetting, ForEach, bounds_in, lengths_in}
-use Rattle.memory_bound.specs.Found.{IsFoundOf, found_at}
+use Rattle.memory_bound.specs.Found.{IsMemoryFoundOf, found_at}
 
 -- it is said of a method alone whose graph's reduction leaves no nodes that it is reducible
 abbrev pub TellsReducible : Program → (method : ℕ) → Found → Type 0
@@ -18,4 +18,4 @@ AreToldReducible f ms table = (P : Program) → IsFlowOf P f → (m : ℕ) → C
 -- of each of these methods, which stand behind what they may run, it is found what it makes, where no graph's reduction leaves nodes
 abbrev pub AreFoundIn : NeedSetting → (order : List ℕ) → List Found → Type 0
 AreFoundIn s order table = ForEach s (λ P. IsTargetsFirst P P.boot order → ((m : ℕ) → Contains order m → IsLeftWith P m [])
-    → (m : ℕ) → Contains order m → IsFoundOf P (bounds_in s) (lengths_in s) m (found_at table m))
+    → (m : ℕ) → Contains order m → IsMemoryFoundOf P (bounds_in s) (lengths_in s) m (found_at table m))

@@ -21,15 +21,15 @@ found_at table m = slice_index_or table m unknown
 -- ---- one method
 
 -- a loop of the method makes objects, and no bound is given for it
-abbrev pub LacksBound : Program → BoundOf → (method place : ℕ) → Type 0
-LacksBound P bounds m p = HeadsMaking P m p × (bounds m p ≡ None)
+abbrev pub LacksLoopBound : Program → BoundOf → (method place : ℕ) → Type 0
+LacksLoopBound P bounds m p = HeadsMaking P m p × (bounds m p ≡ None)
 
-abbrev pub HasBounds : Program → BoundOf → (method : ℕ) → Type 0
-HasBounds P bounds m = (p : ℕ) → ¬ LacksBound P bounds m p
+abbrev pub HasLoopBounds : Program → BoundOf → (method : ℕ) → Type 0
+HasLoopBounds P bounds m = (p : ℕ) → ¬ LacksLoopBound P bounds m p
 
 -- so it is for all that may run while the method does
 abbrev pub HaveBoundsWithin : Program → BoundOf → (method : ℕ) → Type 0
-HaveBoundsWithin P bounds m = (t : ℕ) → IsWithin P m t → HasBounds P bounds t
+HaveBoundsWithin P bounds m = (t : ℕ) → IsWithin P m t → HasLoopBounds P bounds t
 
 -- an instruction of the method makes arrays of no length
 pub record IsUnlimited (P : Program) (lengths : BoundOf) (m p : ℕ) : Type 0 where
@@ -38,13 +38,13 @@ pub record IsUnlimited (P : Program) (lengths : BoundOf) (m p : ℕ) : Type 0 wh
   pub none : lengths m p ≡ None
 
 -- it makes no arrays, or they have a length
-abbrev pub HasLength : Program → BoundOf → (method place : ℕ) → Type 0
-HasLength P lengths m p = MakesArrays P m p → ((c : ℤ) × IsPushedBefore P m p c) ⊎ ((n : ℕ) × (lengths m p ≡ Some n))
+abbrev pub HasArrayLength : Program → BoundOf → (method place : ℕ) → Type 0
+HasArrayLength P lengths m p = MakesArrays P m p → ((c : ℤ) × IsPushedBefore P m p c) ⊎ ((n : ℕ) × (lengths m p ≡ Some n))
 
 -- the first instruction without a length; or each that makes arrays has one
 abbrev pub IsFirstUnlimitedOf : Program → BoundOf → (method : ℕ) → Option ℕ → Type 0
-IsFirstUnlimitedOf P lengths m o = MatchOption o ((p : ℕ) → HasLength P lengths m p)
-    (λ p. IsUnlimited P lengths m p × ((q : ℕ) → q < p → HasLength P lengths m q))
+IsFirstUnlimitedOf P lengths m o = MatchOption o ((p : ℕ) → HasArrayLength P lengths m p)
+    (λ p. IsUnlimited P lengths m p × ((q : ℕ) → q < p → HasArrayLength P lengths m q))
 
 -- ---- numbers past 64 bits
 
@@ -60,15 +60,15 @@ IsMostOr P bounds lengths part o = MatchOption o (Exceeds P bounds lengths part)
 
 -- ---- what is found
 
-pub record IsFoundOf (P : Program) (bounds lengths : BoundOf) (m : ℕ) (x : Found) : Type 0 where
+pub record IsMemoryFoundOf (P : Program) (bounds lengths : BoundOf) (m : ℕ) (x : Found) : Type 0 where
   pub makes : IsTrue x.makes ↔ MakesObjects P m
-  pub unbounded : IsLeast (LacksBound P bounds m) x.unbounded
+  pub unbounded : IsLeast (LacksLoopBound P bounds m) x.unbounded
   pub unlimited : IsFirstUnlimitedOf P lengths m x.unlimited
   pub heap : HaveBoundsWithin P bounds m → IsMostOr P bounds lengths (OfMethod m) x.heap
 
 -- of all that the method may call
 abbrev pub AreFound : Program → (bounds lengths : BoundOf) → List Found → (method : ℕ) → Type 0
-AreFound P bounds lengths table m = (t : ℕ) → MayCall P m t → IsFoundOf P bounds lengths t (found_at table t)
+AreFound P bounds lengths table m = (t : ℕ) → MayCall P m t → IsMemoryFoundOf P bounds lengths t (found_at table t)
 
 -- of these it is known whether they make objects, and how many words
 abbrev pub KnowMaking : Program → List Found → (method : ℕ) → Type 0
@@ -78,5 +78,5 @@ abbrev pub KnowHeaps : Program → (bounds lengths : BoundOf) → List Found →
 KnowHeaps P bounds lengths table m = (t : ℕ) → MayCall P m t → IsMostOr P bounds lengths (OfMethod t) (found_at table t).heap
 
 -- the instructions among these nodes of the method's graph begin at starts of its code
-abbrev pub AreStarts : Program → (method : ℕ) → List ℕ → Type 0
-AreStarts P m nodes = (p : ℕ) → Contains nodes (2 * p) → IsStartOf P m p
+abbrev pub BeginInstructions : Program → (method : ℕ) → List ℕ → Type 0
+BeginInstructions P m nodes = (p : ℕ) → Contains nodes (2 * p) → IsStartOf P m p

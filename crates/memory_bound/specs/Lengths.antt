@@ -6,7 +6,7 @@ use Rattle.method_flow.specs.Keeping.{BoundOf}
 use Rattle.memory_rules.specs.declared.sites.Makes.{Makes}
 use Rattle.memory_rules.specs.declared.sites.Makes.TheVariants.{Array}
 use Rattle.memory_rules.specs.Heap.{IsOn}
-use Rattle.memory_bound.specs.Found.{IsUnlimited, HasLength}
+use Rattle.memory_bound.specs.Found.{IsUnlimited, HasArrayLength}
 
 -- control reaches the instruction at the place
 abbrev pub IsReachedIn : Program → (method place : ℕ) → Type 0
@@ -23,13 +23,13 @@ lacks_constant makes = false
 
 -- whether the instruction at the place makes arrays without a length
 abbrev pub TellsLength : Program → BoundOf → (method place : ℕ) → Bool → Type 0
-TellsLength P lengths m p lacks = MatchBool lacks (IsUnlimited P lengths m p) (HasLength P lengths m p)
+TellsLength P lengths m p lacks = MatchBool lacks (IsUnlimited P lengths m p) (HasArrayLength P lengths m p)
 
 -- whether the node is such an instruction
 abbrev pub TellsNode : Program → BoundOf → (method node : ℕ) → Bool → Type 0
-TellsNode P lengths m u lacks = MatchBool lacks ((p : ℕ) × (2 * p ≡ u) × IsUnlimited P lengths m p) ((p : ℕ) → 2 * p ≡ u → HasLength P lengths m p)
+TellsNode P lengths m u lacks = MatchBool lacks ((p : ℕ) × (2 * p ≡ u) × IsUnlimited P lengths m p) ((p : ℕ) → 2 * p ≡ u → HasArrayLength P lengths m p)
 
 -- the place of the first of these nodes, which rise, that is such an instruction; or none is
 abbrev pub IsFirstAmong : Program → BoundOf → (method : ℕ) → (nodes : List ℕ) → Option ℕ → Type 0
-IsFirstAmong P lengths m nodes o = MatchOption o ((p : ℕ) → Contains nodes (2 * p) → HasLength P lengths m p)
-    (λ p. Contains nodes (2 * p) × IsUnlimited P lengths m p × ((q : ℕ) → q < p → Contains nodes (2 * q) → HasLength P lengths m q))
+IsFirstAmong P lengths m nodes o = MatchOption o ((p : ℕ) → Contains nodes (2 * p) → HasArrayLength P lengths m p)
+    (λ p. Contains nodes (2 * p) × IsUnlimited P lengths m p × ((q : ℕ) → q < p → Contains nodes (2 * q) → HasArrayLength P lengths m q))

@@ -10,7 +10,8 @@ ghost use Rattle.call_regions.specs.Regions.{AreKnown};
 ghost use Rattle.memory_bound.specs.Setting.{ForEach, bounds_in, lengths_in};
 ghost use Rattle.memory_bound.specs.Examined.{AreFoundIn, AreToldReducible, TellsReducible};
 ghost use Rattle.memory_bound.specs.Causes.{IsCallFault, IsNeedFault};
-ghost use Rattle.memory_bound.specs.Needs.{HaveNoCause, IsFoundFault, IsNeedOf, IsShapeFaultOf, IsShapesFault, IsFaultIn, IsSmall, NoneLacksBound, NoneLacksLength};
+ghost use Rattle.memory_bound.specs.Needs.{HaveNoCause, IsFoundFault, IsNeedOf, IsShapeFaultOf, IsShapesFault, IsFaultIn, IsSmall, NoneLacksBound};
+ghost use Rattle.memory_bound.specs.Needs.{NoneLacksLength};
 ghost use Rattle.memory_bound.specs.Needs.{NoneTooLarge};
 
 use super::examining::examine_all;

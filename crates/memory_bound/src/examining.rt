@@ -10,7 +10,7 @@ ghost use Rattle.bound_rules.specs.Laws.{ReachesStarts};
 ghost use Rattle.call_regions.specs.Calling.{IsTargetsFirst};
 ghost use Rattle.memory_bound.specs.Setting.{ForEach, bounds_in, lengths_in};
 ghost use Rattle.memory_rules.specs.Heap.{OfMethod};
-ghost use Rattle.memory_bound.specs.Found.{AreFound, HaveBoundsWithin, IsFoundOf, IsMostOr, found_at};
+ghost use Rattle.memory_bound.specs.Found.{AreFound, HaveBoundsWithin, IsMemoryFoundOf, IsMostOr, found_at};
 ghost use Rattle.memory_bound.specs.Examined.{AreFoundIn, AreToldReducible, TellsReducible};
 ghost use Rattle.memory_bound.specs.Shapes.{IsShapeIn, IsShapeOf};
 ghost use Rattle.memory_bound.specs.Loops.{AreBoundsOf, AreLoopsFound};
@@ -129,7 +129,7 @@ fn examine_shape(
     requires long { length table.now ≡ length task.now.flow.methods }
     requires shape { (g : Digraph) × IsShapeIn g s.now }
     ensures { IfOk result (λ x. ForEach task.now (λ P. IsShapeOf P m s.now → AreFound P (bounds_in task.now) (lengths_in task.now) table.now m
-        → IsFoundOf P (bounds_in task.now) (lengths_in task.now) m x)) }
+        → IsMemoryFoundOf P (bounds_in task.now) (lengths_in task.now) m x)) }
 {
     // The laws are for the proof.
     heap_laws();
@@ -153,7 +153,7 @@ fn examine(alloc: Global, task: &Task<'_>, m: u32, table: &[Found]) -> Result<Fo
     requires long { length table.now ≡ length task.now.flow.methods }
     ensures reducible { IfOk result (λ x. (P : Program) → IsFlowOf P task.now.flow → TellsReducible P m x) }
     ensures found { IfOk result (λ x. ForEach task.now (λ P. IsLeftWith P m [] → AreFound P (bounds_in task.now) (lengths_in task.now) table.now m
-        → IsFoundOf P (bounds_in task.now) (lengths_in task.now) m x)) }
+        → IsMemoryFoundOf P (bounds_in task.now) (lengths_in task.now) m x)) }
 {
     // The law is for the proof.
     leaves_nodes_or_none();

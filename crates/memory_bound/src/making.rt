@@ -4,7 +4,7 @@ ghost use Rattle.loop_nest.specs.Digraph.{Digraph};
 ghost use Rattle.method_flow.specs.Calls.{IsStartOf};
 ghost use Rattle.memory_rules.specs.Heap.{LoopMakesObjects, PlaceMakesObjects};
 ghost use Rattle.memory_bound.specs.Setting.{ForEach};
-ghost use Rattle.memory_bound.specs.Found.{AreStarts, KnowMaking, found_at};
+ghost use Rattle.memory_bound.specs.Found.{BeginInstructions, KnowMaking, found_at};
 ghost use Rattle.memory_bound.specs.Shapes.{IsShapeIn, IsShapeOf, members_in};
 ghost use Rattle.memory_bound.specs.Loops.{AreMakingLoops};
 
@@ -53,7 +53,7 @@ fn node_makes(task: &Task<'_>, m: u32, table: &[Found], node: u32) -> bool
 pub fn some_node_makes(task: &Task<'_>, m: u32, table: &[Found], nodes: &[u32]) -> bool
     requires method { m < length task.now.flow.methods }
     requires long { length table.now ≡ length task.now.flow.methods }
-    ensures { ForEach task.now (λ P. AreStarts P m nodes.now → KnowMaking P table.now m
+    ensures { ForEach task.now (λ P. BeginInstructions P m nodes.now → KnowMaking P table.now m
         → IsTrue result ↔ ((p : ℕ) × Contains nodes.now (2 * p) × PlaceMakesObjects P m p)) }
 {
     for node in nodes {
@@ -76,7 +76,7 @@ fn loop_makes(
     requires method { m < length task.now.flow.methods }
     requires long { length table.now ≡ length task.now.flow.methods }
     requires within { All (λ u. u < length nodes.now) l.now.members }
-    ensures { IfOk result (λ b. ForEach task.now (λ P. AreStarts P m (members_in nodes.now l.now) → KnowMaking P table.now m
+    ensures { IfOk result (λ b. ForEach task.now (λ P. BeginInstructions P m (members_in nodes.now l.now) → KnowMaking P table.now m
         → IsTrue b ↔ ((p : ℕ) × Contains (members_in nodes.now l.now) (2 * p) × PlaceMakesObjects P m p))) }
 {
     let members = numbers(alloc, nodes, l.members())?;
@@ -95,7 +95,7 @@ pub fn making_loops(
     requires long { length table.now ≡ length task.now.flow.methods }
     requires shape { (g : Digraph) × IsShapeIn g s.now }
     ensures long { IfOk result (λ v. length v.items ≡ length s.now.nest) }
-    ensures making { IfOk result (λ v. ForEach task.now (λ P. IsShapeOf P m s.now → AreStarts P m s.now.nodes → KnowMaking P table.now m
+    ensures making { IfOk result (λ v. ForEach task.now (λ P. IsShapeOf P m s.now → BeginInstructions P m s.now.nodes → KnowMaking P table.now m
         → AreMakingLoops P m s.now v.items)) }
 {
     // The laws are for the proof.

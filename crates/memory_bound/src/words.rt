@@ -2,7 +2,7 @@
 ghost use Rattle.std.specs.Prelude.{◌≡◌, ◌+◌, ◌<◌, ◌*◌, ℕ, length, All, IfOk, IfSome, MatchOption};
 ghost use Rattle.method_flow.specs.Calls.{IsStartOf};
 ghost use Rattle.memory_bound.specs.Setting.{ForEach, bounds_in, lengths_in};
-ghost use Rattle.memory_bound.specs.Found.{AreStarts, KnowHeaps};
+ghost use Rattle.memory_bound.specs.Found.{BeginInstructions, KnowHeaps};
 ghost use Rattle.memory_bound.specs.Words.{AreNodeWords, IsGreatestHeap, IsNodeWords, IsPlaceWords, IsSiteWords, SomeExceeds, told_words};
 
 use super::found::Found;
@@ -106,7 +106,7 @@ pub fn words_of(
     requires method { m < length task.now.flow.methods }
     requires long { length table.now ≡ length task.now.flow.methods }
     ensures long { IfOk result (λ o. IfSome o (λ v. length v.items ≡ length nodes.now)) }
-    ensures words { IfOk result (λ o. ForEach task.now (λ P. AreStarts P m nodes.now
+    ensures words { IfOk result (λ o. ForEach task.now (λ P. BeginInstructions P m nodes.now
         → KnowHeaps P (bounds_in task.now) (lengths_in task.now) table.now m
         → MatchOption o (SomeExceeds P (bounds_in task.now) (lengths_in task.now) m nodes.now)
         (λ v. AreNodeWords P (bounds_in task.now) (lengths_in task.now) m nodes.now v.items))) }

@@ -13,11 +13,11 @@ use Rattle.bytecode_model.specs.Program.{Method, body_of}
 use Rattle.class_lookup.specs.Parts.{signature_of}
 use Rattle.class_lookup.specs.Lookup.{Place, method_at}
 use Rattle.program_tables.specs.Numbers.{member_text, method_text}
-use Rattle.program_tables.specs.Resolved.{resolved}
+use Rattle.program_tables.specs.Resolved.{resolved, method_name}
 use Rattle.program_tables.specs.Resolving.{IsResolved}
 use Rattle.program_laws.proofs.Facts.{all_at, distinct}
 use Rattle.program_laws.proofs.Numbering.{IsMethodOf, IsNumbered, at_place, numbered}
-use Rattle.method_names.specs.Names.{name_of, NamesAreOne}
+use Rattle.method_names.specs.Names.{NamesAreOne}
 use Rattle.method_names.proofs.NamesTexts.{IsNamed, named, one_signature}
 use Rattle.method_names.proofs.NamesPlaces.{one_number}
 use Rattle.method_names.proofs.NamesClasses.{one_class}
@@ -34,7 +34,7 @@ Found cs m = (k : Method) × IsNumbered cs m k
 found : (cs : List ClassFile) (m : ℕ) → is_some (body_of (resolved cs) m) ≡ true → Found cs m
 found cs m h = let k = method_case (slice_get (resolved cs).methods m) h in (k.0, numbered cs m k.0 k.1)
 
-name_at : (cs : List ClassFile) (m : ℕ) (k : Method) (p : IsNumbered cs m k) → name_of cs m ≡ member_text p.method.owner p.method.member
+name_at : (cs : List ClassFile) (m : ℕ) (k : Method) (p : IsNumbered cs m k) → method_name cs m ≡ member_text p.method.owner p.method.member
 name_at cs m k p =
     let owner = p.method.owner in
     let there = at_place cs p.place owner p.method.member p.method.class p.method.there in

@@ -14,7 +14,7 @@ use Rattle.class_pool.specs.declared.entry.Entry.TheVariants as entries
 use Rattle.class_pool.specs.declared.class.Member.{Member}
 use Rattle.class_pool.specs.declared.class.ClassFile.{ClassFile}
 use Rattle.class_pool.specs.Grammar.{entry_at, utf8_of, class_name_of, text_at}
-use Rattle.class_pool.specs.Spelling.{IsInRange}
+use Rattle.class_pool.specs.Spelling.{IsEntryInRange}
 use Rattle.class_pool.specs.Utf8.{unit_bytes, utf8_bytes, AreUnits}
 use Rattle.class_pool.specs.Reading.{units_in}
 use Rattle.class_pool.proofs.TextLaws.{units_again}
@@ -50,26 +50,26 @@ units_append : (a b : List ℕ) → AreUnits a → AreUnits b → AreUnits (a ++
 units_append [] b x y = y
 units_append (unit ∷ a) b x y = (x.0, units_append a b x.1 y)
 
-entry_units : (e : Entry) → IsInRange e → AreUnits (unwrap_or (utf8_of (Some e)) [])
+entry_units : (e : Entry) → IsEntryInRange e → AreUnits (unwrap_or (utf8_of (Some e)) [])
 entry_units (entries.Utf8 units) h = h.0
 entry_units e h = tt
 
-found_units : (pool : List Entry) (place : ℕ) (o : Option Entry) → AllByRecursion IsInRange pool → slice_get pool place ≡ o → AreUnits (unwrap_or (utf8_of o) [])
+found_units : (pool : List Entry) (place : ℕ) (o : Option Entry) → AllByRecursion IsEntryInRange pool → slice_get pool place ≡ o → AreUnits (unwrap_or (utf8_of o) [])
 found_units pool place None all at = tt
-found_units pool place (Some e) all at = entry_units e (all_at IsInRange pool place e all at)
+found_units pool place (Some e) all at = entry_units e (all_at IsEntryInRange pool place e all at)
 
-text_units : (pool : List Entry) (index : ℕ) → AllByRecursion IsInRange pool → AreUnits (text_at pool index)
+text_units : (pool : List Entry) (index : ℕ) → AllByRecursion IsEntryInRange pool → AreUnits (text_at pool index)
 text_units pool zero all = tt
 text_units pool (suc place) all = found_units pool place (slice_get pool place) all refl
 
-class_units : (pool : List Entry) (o : Option ℕ) → AllByRecursion IsInRange pool → AreUnits (option_map_or (text_at pool) o [])
+class_units : (pool : List Entry) (o : Option ℕ) → AllByRecursion IsEntryInRange pool → AreUnits (option_map_or (text_at pool) o [])
 class_units pool None all = tt
 class_units pool (Some index) all = text_units pool index all
 
 dot_unit : 46 < 2 ^ 16
 dot_unit = omega arith
 
-whole_units : (c : ClassFile) (m : Member) → AllByRecursion IsInRange c.pool → AreUnits (whole c m)
+whole_units : (c : ClassFile) (m : Member) → AllByRecursion IsEntryInRange c.pool → AreUnits (whole c m)
 whole_units c m all =
     let name = text_at c.pool m.name in
     let descriptor = text_at c.pool m.descriptor in

@@ -4,7 +4,7 @@ use Rattle.std.specs.declared.option.Option.{Option}
 use Rattle.base.specs.Growing.{Grew-refl, Grew-trans}
 use Rattle.device_traits.specs.declared.seen.Seen.{Seen}
 use Rattle.device_traits.specs.Noting.{Noted-refl, Noted-trans}
-use Rattle.device_traits.specs.Told.{Told, Note, Exchanged, GivesWhere, GivesEach, Attended, CountsRise}
+use Rattle.device_traits.specs.Told.{Told, DeviceNote, Exchanged, GivesWhere, GivesEach, Attended, CountsRise}
 
 -- the answers of a cycle: one where it asks, and else none
 abbrev pub asked_for : (asks : Bool) → Option ℕ → List (Option ℕ)
@@ -22,7 +22,7 @@ GivesEach-one false l0 l1 input gives = gives.0
 pub Attended-refl : (told : Told) → Attended told told [] [] [] []
 Attended-refl told = record { left = refl; held = Grew-refl told.held; noted = Noted-refl told; handed = Grew-refl told.handed; counts = record { reads = omega arith; writes = omega arith; sees = omega arith } }
 
-pub Attended-one : (t0 t1 : Told) (asks : Bool) (input : Option ℕ) (out : List ℕ) (seen : List Seen) (notes : List Note)
+pub Attended-one : (t0 t1 : Told) (asks : Bool) (input : Option ℕ) (out : List ℕ) (seen : List Seen) (notes : List DeviceNote)
     → Exchanged t0 t1 asks input out seen notes → CountsRise t0 t1 → Attended t0 t1 (asked_for asks input) out seen notes
 Attended-one t0 t1 asks input out seen notes all counts = record {
   left = GivesEach-one asks t0.left t1.left input all.left;
@@ -32,7 +32,7 @@ Attended-one t0 t1 asks input out seen notes all counts = record {
   counts = counts;
 }
 
-pub Attended-trans : (t0 t1 t2 : Told) (answers0 answers1 : List (Option ℕ)) (out0 out1 out : List ℕ) (seen0 seen1 seen : List Seen) (notes0 notes1 notes : List Note)
+pub Attended-trans : (t0 t1 t2 : Told) (answers0 answers1 : List (Option ℕ)) (out0 out1 out : List ℕ) (seen0 seen1 seen : List Seen) (notes0 notes1 notes : List DeviceNote)
     → Attended t0 t1 answers0 out0 seen0 notes0 → Attended t1 t2 answers1 out1 seen1 notes1
     → out ≡ out0 ++ out1 → seen ≡ seen0 ++ seen1 → notes ≡ notes0 ++ notes1 → Attended t0 t2 (answers0 ++ answers1) out seen notes
 Attended-trans t0 t1 t2 answers0 answers1 out0 out1 out seen0 seen1 seen notes0 notes1 notes first second outs seens all = record {

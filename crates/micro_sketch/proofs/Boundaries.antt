@@ -1,7 +1,7 @@
 -- Where a boundary is, and what the flags of a microinstruction do.
 use Rattle.std.proofs.Common.{◌≡◌, ℕ, suc, zero, ◌+◌, ◌%◌, ◌&&◌, ◌||◌, ◌==◌, Bool, true, false, List, [], ◌∷◌, ◌⊎◌, inl, inr, get_or, if◌then◌else◌, refl, ap, ◌∙◌, Option, eq-eqb, eqb-true}
 use Rattle.std.proofs.lemmas.Bool.{and_parts}
-use Rattle.jop_core.specs.State.{State}
+use Rattle.jop_core.specs.State.{MachineState}
 use Rattle.jop_core.specs.Cycle.{with_nxt, with_opd, at_boundary, is_running, entry_of}
 use Rattle.jop_core.specs.declared.halt.Halt.TheVariants.{Running}
 use Rattle.jop_core.specs.Scene.{Scene}
@@ -11,7 +11,7 @@ use Rattle.microcode_rom.specs.declared.TheConstants.{ENTRIES, RAISE}
 use Rattle.micro_sketch.proofs.Counts.{was_flags}
 
 -- a scene of a state
-abbrev pub around : State → (answers : List (Option ℕ)) → (output : List ℕ) → Scene
+abbrev pub around : MachineState → (answers : List (Option ℕ)) → (output : List ℕ) → Scene
 around s answers output = record { state = s; answers = answers; output = output }
 
 -- the flags

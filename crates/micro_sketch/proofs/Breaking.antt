@@ -2,7 +2,7 @@
 use Rattle.std.proofs.Common.{◌≡◌, ℕ, ◌+◌, ◌-◌, ◌<◌, ◌≤◌, true, List, [], ◌∷◌, ◌++◌, length, reverse, refl, sym, ◌∙◌, ap, subst, arith, append-nil, length-append}
 use Rattle.std.specs.declared.option.Option.{Option}
 use Rattle.std.proofs.lemmas.List.{length-reverse}
-use Rattle.jop_core.specs.State.{State}
+use Rattle.jop_core.specs.State.{MachineState}
 use Rattle.jop_core.specs.Cycle.{at_boundary, asks_input, cycle_of}
 use Rattle.jop_core.specs.Scene.{Scene, begun, given, run, output_during}
 use Rattle.micro_sketch.specs.Sketch.{Sketch}
@@ -19,15 +19,15 @@ empty [] none = refl
 empty (x ∷ xs) none = absurd (omega (arith, none))
 
 -- the whole run would take none of these answers and put nothing out
-record Whole (cycles : ℕ) (s : State) (answers : List (Option ℕ)) : Type 0 where
+record Whole (cycles : ℕ) (s : MachineState) (answers : List (Option ℕ)) : Type 0 where
   comes : ComesAfter cycles s answers
   kept : (run cycles (begun s answers)).answers ≡ answers
   silent : (run cycles (begun s answers)).output ≡ []
 
-whole : (n : ℕ) (x : Sketch) (e : Env) (s : State) → s ≡ conc n x e → x.output ≡ [] → (answers : List (Option ℕ)) → (r : Silent n (expecting answers x) e) → Whole r.reaches.cycles s answers
+whole : (n : ℕ) (x : Sketch) (e : Env) (s : MachineState) → s ≡ conc n x e → x.output ≡ [] → (answers : List (Option ℕ)) → (r : Silent n (expecting answers x) e) → Whole r.reaches.cycles s answers
 whole n x e s same none answers r =
     let k : ℕ = r.reaches.cycles in
-    let P : State → Type 0 = λ z. Whole k z answers in
+    let P : MachineState → Type 0 = λ z. Whole k z answers in
     let Q : List ℕ → Type 0 = λ z. ((run k (record { state = conc n x e; answers = answers; output = z })).answers ≡ answers) × ((run k (record { state = conc n x e; answers = answers; output = z })).output ≡ z) in
     let there = subst Q none (ap (λ (z : Scene). z.answers) r.reaches.same ∙ r.answers, ap (λ (z : Scene). z.output) r.reaches.same ∙ r.output) in
     subst P (sym same) (record {
@@ -68,7 +68,7 @@ breaks_silently n x e old new t0 t1 fault same none silent b =
       put = ap (λ (z : List (Option ℕ)). output_during b.cycles (begun old z)) (sym (append-nil b.answers)) ∙ no_byte b.cycles r.reaches.cycles (begun old all) (omega (arith, early)) w.silent;
     }
 
-comes_at_once : (s : State) (answers : List (Option ℕ)) → ((input : Option ℕ) → at_boundary (cycle_of input s) ≡ true) → ComesAfter 1 s answers
+comes_at_once : (s : MachineState) (answers : List (Option ℕ)) → ((input : Option ℕ) → at_boundary (cycle_of input s) ≡ true) → ComesAfter 1 s answers
 comes_at_once s answers once = record { positive = omega arith; holds = once (given (asks_input s) answers); before = λ i below. absurd (omega (arith, below)) }
 
 no_output : (c : Scene) → output_during 0 c ≡ []

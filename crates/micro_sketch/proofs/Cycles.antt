@@ -2,7 +2,7 @@
 use Rattle.std.proofs.Common.{◌≡◌, ℕ, ◌+◌, ◌%◌, ◌&&◌, ◌||◌, ◌==◌, Bool, true, false, List, [], ◌∷◌, ◌++◌, get_or, if◌then◌else◌, refl, sym, ap, ◌∙◌, subst, arith, Option, Some}
 use Rattle.micro_isa.specs.declared.Micro.{Micro}
 use Rattle.micro_isa.specs.Words.{micro_of}
-use Rattle.jop_core.specs.State.{State}
+use Rattle.jop_core.specs.State.{MachineState}
 use Rattle.jop_core.specs.Cycle.{cycle_of, performed, with_nxt, with_opd, waits, ran, is_running, output_of, asks_input, asks, body_asks, puts}
 use Rattle.jop_core.specs.declared.halt.Halt.{Halt}
 use Rattle.jop_core.specs.declared.halt.Halt.TheVariants.{Running, Ended, Uncaught}
@@ -50,7 +50,7 @@ next_is n x e m d =
     let asked = asked_is n x e m d in
     let put = put_is n x e m d in
     ap (λ b. record { state = cycle_of (given b x.answers) (conc n x e); answers = left_over b x.answers; output = output_of (conc n x e) ++ x.output }) asked
-    ∙ ap (λ (s : State). record { state = s; answers = left_over (body_asks m.body) x.answers; output = output_of (conc n x e) ++ x.output }) (cycle_runs n x e m (given (body_asks m.body) x.answers) d)
+    ∙ ap (λ (s : MachineState). record { state = s; answers = left_over (body_asks m.body) x.answers; output = output_of (conc n x e) ++ x.output }) (cycle_runs n x e m (given (body_asks m.body) x.answers) d)
     ∙ ap (λ (o : List ℕ). record { state = ran (given (body_asks m.body) x.answers) (Some m) (conc n x (tick e)); answers = left_over (body_asks m.body) x.answers; output = o ++ x.output }) put
 
 pub scene_runs : (n : ℕ) (x : Sketch) (e : Env) (m : Micro) → micro_of (get_or WORDS x.mpc 0) ≡ Some m → waits m (conc n x (tick e)) ≡ false → next_scene (scene n x e) ≡ ran_scene n x e m
@@ -122,7 +122,7 @@ pub record Moves (m : Micro) (x y : Sketch) : Type 0 where
   pub output : y.output ≡ puts (Some m) x.top ++ x.output
 
 -- how an effect and the flags make a step of one cycle
-pub one_cycle : (n : ℕ) (x y : Sketch) (e e' : Env) (m : Micro) (choice : Bool) (s : State) → Goes x → micro_of (get_or WORDS x.mpc 0) ≡ Some m → waits m (conc n x (tick e)) ≡ false →
+pub one_cycle : (n : ℕ) (x y : Sketch) (e e' : Env) (m : Micro) (choice : Bool) (s : MachineState) → Goes x → micro_of (get_or WORDS x.mpc 0) ≡ Some m → waits m (conc n x (tick e)) ≡ false →
     performed (given (body_asks m.body) x.answers) m (conc n x (tick e)) ≡ with_nxt m.nxt (with_opd m.opd s) → Does n x y e' s → e'.clock ≡ e.clock + 1 → e'.read ≡ e.read → e'.write ≡ e.write → PortFits y.busy e' →
     Moves m x y → ((p : CostParams) → p.r ≡ e.read → p.w ≡ e.write → (s : Walker) → s.port ≡ e.port → Timed p m choice (ended y.halt) s e') →
     (lead m.nxt (opd_byte m.opd y)).fine ≡ true → Reaches n x (lead m.nxt (opd_byte m.opd y)) e
@@ -134,7 +134,7 @@ one_cycle n x y e e' m choice s nd d w p g c r wr f mv t fine =
       positive = omega arith;
       env = e';
       same = scene_runs n x e m d w
-          ∙ ap (λ (t : State). around t (left_over (body_asks m.body) x.answers) (puts (Some m) x.top ++ x.output)) (p ∙ ap (λ (z : State). with_nxt m.nxt (with_opd m.opd z)) g.same)
+          ∙ ap (λ (t : MachineState). around t (left_over (body_asks m.body) x.answers) (puts (Some m) x.top ++ x.output)) (p ∙ ap (λ (z : MachineState). with_nxt m.nxt (with_opd m.opd z)) g.same)
           ∙ ap (λ (i : List (Option ℕ)). around (with_nxt m.nxt (with_opd m.opd (conc n y e'))) i (puts (Some m) x.top ++ x.output)) (sym mv.answers)
           ∙ ap (λ (o : List ℕ). around (with_nxt m.nxt (with_opd m.opd (conc n y e'))) y.answers o) (sym mv.output)
           ∙ flags_same m.opd m.nxt n y e';

@@ -3,7 +3,7 @@ use Rattle.std.proofs.Common.{◌≡◌, ℕ, zero, suc, ◌+◌, ◌%◌, ◌^�
 use Rattle.std.specs.declared.option.Option.{Option}
 use Rattle.std.proofs.lemmas.List.{reverse-append}
 use Rattle.micro_isa.specs.declared.Micro.{Micro}
-use Rattle.jop_core.specs.State.{State, seen_of}
+use Rattle.jop_core.specs.State.{MachineState, seen_of}
 use Rattle.jop_core.specs.Cycle.{output_of, puts, body_outputs, micro_at}
 use Rattle.jop_core.specs.Ticked.{notes_of}
 use Rattle.jop_core.specs.Scene.{Scene, run, output_during, seen_during, notes_during}
@@ -128,7 +128,7 @@ pending : (b : Bool) (m : Option Micro) (a : ℕ) → reverse (if b then [] else
 pending true m a = refl
 pending false m a = puts-reversed m a
 
-output_of-reversed : (s : State) → reverse (output_of s) ≡ output_of s
+output_of-reversed : (s : MachineState) → reverse (output_of s) ≡ output_of s
 unfolding output_of
 output_of-reversed s = pending (nat_lt 0 s.stall) (micro_at s) s.a
 

@@ -2,7 +2,7 @@
 use Rattle.std.proofs.Common.{◌≡◌, ℕ, zero, suc, pred, ◌+◌, ◌-◌, ◌^◌, ◌<◌, Bool, true, false, List, [], ◌++◌, reverse, ⊎_elim, refl, sym, ap, ◌∙◌, subst, arith, append-nil}
 use Rattle.std.specs.declared.option.Option.{Option}
 use Rattle.std.proofs.lemmas.List.{append_cancel_right}
-use Rattle.jop_core.specs.State.{State}
+use Rattle.jop_core.specs.State.{MachineState}
 use Rattle.jop_core.specs.Cycle.{at_boundary, asks_input}
 use Rattle.jop_core.specs.Scene.{Scene, begun, left_over, next_scene, run, output_during}
 use Rattle.device_traits.specs.Told.{Told}
@@ -35,15 +35,15 @@ same_first test c d first second =
     (below_or_from c d)
 
 -- whether a run with these answers is at a boundary after so many cycles
-abbrev pub boundary_after : State → List (Option ℕ) → ℕ → Bool
+abbrev pub boundary_after : MachineState → List (Option ℕ) → ℕ → Bool
 boundary_after old answers k = at_boundary (run k (begun old answers)).state
 
 -- so many cycles come to the first boundary, with these answers
-abbrev pub ComesAfter : ℕ → State → List (Option ℕ) → Type 0
+abbrev pub ComesAfter : ℕ → MachineState → List (Option ℕ) → Type 0
 ComesAfter cycles old answers = IsFirst (boundary_after old answers) cycles
 
 -- the cycles to the next boundary are the first to come to one, also with further answers behind
-pub Arrived-comes : (old new : State) (t0 t1 : Told) (more : List (Option ℕ)) → (far : Arrived old new t0 t1) → ComesAfter far.cycles old (far.answers ++ more)
+pub Arrived-comes : (old new : MachineState) (t0 t1 : Told) (more : List (Option ℕ)) → (far : Arrived old new t0 t1) → ComesAfter far.cycles old (far.answers ++ more)
 Arrived-comes old new t0 t1 more far = record {
   positive = far.positive;
   holds = ap at_boundary (far.ran.state more) ∙ far.boundary;
@@ -54,14 +54,14 @@ Arrived-comes old new t0 t1 more far = record {
 }
 
 -- a run whose first boundary is known to come after so many cycles has come to it after just these
-pub lands : (cycles : ℕ) (old new : State) (t0 t1 : Told) (more : List (Option ℕ)) → (far : Arrived old new t0 t1) → ComesAfter cycles old (far.answers ++ more)
+pub lands : (cycles : ℕ) (old new : MachineState) (t0 t1 : Told) (more : List (Option ℕ)) → (far : Arrived old new t0 t1) → ComesAfter cycles old (far.answers ++ more)
     → (far.cycles ≡ cycles) × (new ≡ (run cycles (begun old (far.answers ++ more))).state)
 lands cycles old new t0 t1 more far known =
     let same = same_first (boundary_after old (far.answers ++ more)) far.cycles cycles (Arrived-comes old new t0 t1 more far) known in
     (same, sym (far.ran.state more) ∙ ap (λ k. (run k (begun old (far.answers ++ more))).state) same)
 
 -- two runs that were given the same answers, as far as both took any, have come to the same boundary
-pub same_boundary : (old new new' : State) (t0 t1 t2 t3 : Told) (more more' : List (Option ℕ)) → (far : Arrived old new t0 t1) → (far' : Arrived old new' t2 t3) → far.answers ++ more ≡ far'.answers ++ more'
+pub same_boundary : (old new new' : MachineState) (t0 t1 t2 t3 : Told) (more more' : List (Option ℕ)) → (far : Arrived old new t0 t1) → (far' : Arrived old new' t2 t3) → far.answers ++ more ≡ far'.answers ++ more'
     → (far.cycles ≡ far'.cycles) × (new ≡ new') × (far.answers ≡ far'.answers)
 same_boundary old new new' t0 t1 t2 t3 more more' far far' answered =
     let C : List (Option ℕ) → Type 0 = λ answers. ComesAfter far'.cycles old answers in
@@ -73,7 +73,7 @@ same_boundary old new new' t0 t1 t2 t3 more more' far far' answered =
     )
 
 -- a boundary that is known to come, after not too many cycles
-pub comes_soon : (cycles : ℕ) (s : State) (answers : List (Option ℕ)) → cycles < 2 ^ 62 → ComesAfter cycles s answers → ComesToBoundary s answers
+pub comes_soon : (cycles : ℕ) (s : MachineState) (answers : List (Option ℕ)) → cycles < 2 ^ 62 → ComesAfter cycles s answers → ComesToBoundary s answers
 comes_soon cycles s answers few first =
     let positive = first.positive in
     let place : suc (pred cycles) ≡ cycles = omega arith in
@@ -99,13 +99,13 @@ Leads-comes cycles c d leads = record {
 }
 
 -- a machine that has come to its next boundary stands where such a run leads, and its device was given what that run put out
-pub record Landed (old new : State) (t0 t1 : Told) (far : Arrived old new t0 t1) (more : List (Option ℕ)) (before : List ℕ) (cycles : ℕ) (d : Scene) : Type 0 where
+pub record Landed (old new : MachineState) (t0 t1 : Told) (far : Arrived old new t0 t1) (more : List (Option ℕ)) (before : List ℕ) (cycles : ℕ) (d : Scene) : Type 0 where
   pub cycles_are : far.cycles ≡ cycles
   pub state_is : new ≡ d.state
   pub answers_left : d.answers ≡ more
   pub output_is : d.output ≡ reverse (output_during far.cycles (begun old far.answers)) ++ before
 
-pub Leads-landed : (cycles : ℕ) (old new : State) (t0 t1 : Told) (far : Arrived old new t0 t1) (more : List (Option ℕ)) (before : List ℕ) (d : Scene)
+pub Leads-landed : (cycles : ℕ) (old new : MachineState) (t0 t1 : Told) (far : Arrived old new t0 t1) (more : List (Option ℕ)) (before : List ℕ) (d : Scene)
     → Leads cycles (record { state = old; answers = far.answers ++ more; output = before }) d → Landed old new t0 t1 far more before cycles d
 Leads-landed cycles old new t0 t1 far more before d leads =
     let c : Scene = record { state = old; answers = far.answers ++ more; output = before } in
@@ -128,7 +128,7 @@ run-asks_none (suc k) c none =
     run-asks_none k (next_scene c) (λ i below. none (suc i) (omega (arith, below)))
     ∙ ap (λ asks. left_over asks c.answers) (none 0 (omega arith))
 
-pub Ran-takes_none : (n : ℕ) (old new : State) (t0 t1 : Told) (answers : List (Option ℕ)) → RanCycles n old new t0 t1 answers → ((i : ℕ) → i < n → asks_input (run i (begun old answers)).state ≡ false) → answers ≡ []
+pub Ran-takes_none : (n : ℕ) (old new : MachineState) (t0 t1 : Told) (answers : List (Option ℕ)) → RanCycles n old new t0 t1 answers → ((i : ℕ) → i < n → asks_input (run i (begun old answers)).state ≡ false) → answers ≡ []
 Ran-takes_none n old new t0 t1 answers far none =
     sym (run-asks_none n (begun old answers) none)
     ∙ ap (λ (all : List (Option ℕ)). (run n (begun old all)).answers) (sym (append-nil answers))

@@ -6,7 +6,7 @@ use Rattle.micro_isa.specs.declared.Micro.{Micro}
 use Rattle.micro_isa.specs.declared.operation.Operation.TheVariants.{Stvp}
 use Rattle.micro_isa.specs.Operations.{operation_of}
 use Rattle.micro_flow.specs.Walk.{passed, onward, stops, timed, kind_of}
-use Rattle.jop_core.specs.State.{State}
+use Rattle.jop_core.specs.State.{MachineState}
 use Rattle.jop_core.specs.Scene.{given, left_over}
 use Rattle.jop_core.specs.Operations.{operated}
 use Rattle.jop_core.specs.Cycle.{is_wait, is_ldin, is_stout}
@@ -24,7 +24,7 @@ stvp_does n x e input h f small =
     let y = apop x in
     let place : x.top % length (stack_of x) ≡ x.top = ap (λ (k : ℕ). x.top % k) (length_stack n x h) ∙ mod-eq_of_lt small in
     record {
-      same = ap (λ (s : State). record s { vp = x.top % length (stack_of x) }) p.same ∙ ap (λ (k : ℕ). record (conc n y e) { vp = k }) place;
+      same = ap (λ (s : MachineState). record s { vp = x.top % length (stack_of x) }) p.same ∙ ap (λ (k : ℕ). record (conc n y e) { vp = k }) place;
       shape = record { low = p.shape.low; total = p.shape.total };
       was = p.was;
     }
@@ -60,6 +60,6 @@ frame_place_moves n x e opd nxt nd h p w small f =
 
 pub switch_runs_on : SwitchRunsOn
 switch_runs_on n p op cycles f x e new d = (
-  ap (λ (s : State). s.halt) d.same ∙ d.switches.running,
-  λ raises. no_entry_raises d.after.opcode (sym (ap (λ (s : State). s.mpc) d.same ∙ d.switches.mpc) ∙ raises),
+  ap (λ (s : MachineState). s.halt) d.same ∙ d.switches.running,
+  λ raises. no_entry_raises d.after.opcode (sym (ap (λ (s : MachineState). s.mpc) d.same ∙ d.switches.mpc) ∙ raises),
 )

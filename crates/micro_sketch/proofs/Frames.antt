@@ -8,7 +8,7 @@ use Rattle.micro_isa.specs.declared.Micro.{Micro}
 use Rattle.micro_isa.specs.declared.operation.Operation.TheVariants.{Stsp}
 use Rattle.micro_isa.specs.Operations.{operation_of}
 use Rattle.micro_flow.specs.Walk.{passed, onward, stops, timed, kind_of}
-use Rattle.jop_core.specs.State.{State}
+use Rattle.jop_core.specs.State.{MachineState}
 use Rattle.jop_core.specs.Scene.{given, left_over}
 use Rattle.jop_core.specs.Operations.{operated}
 use Rattle.jop_core.specs.Cycle.{is_wait, is_ldin, is_stout}
@@ -44,7 +44,7 @@ split_shape n x d us js h s = let t = s.total in record { low = s.low; total = o
 pub split_anywhere : (n : ℕ) (x : Sketch) (e : Env) (d us js : List ℕ) → Shaped n x → whole x ≡ d ++ reverse_aux us js → length x.deep + length x.under ≡ length d + length us →
     (scene n x e ≡ scene n (split x d us js) e) × Shaped n (split x d us js)
 split_anywhere n x e d us js s h l = (
-  ap (λ (t : State). around t x.answers x.output) (moved (conc n x e) (stack_of x) (stack_of (split x d us js)) (sp_of x) (sp_of (split x d us js)) (stack_split x d us js h) (omega arith)),
+  ap (λ (t : MachineState). around t x.answers x.output) (moved (conc n x e) (stack_of x) (stack_of (split x d us js)) (sp_of x) (sp_of (split x d us js)) (stack_split x d us js h) (omega arith)),
   split_shape n x d us js h s,
 )
 
@@ -68,7 +68,7 @@ stsp_does n x e d us js input h f g t =
     let small : x.top < n = omega (arith, whole_length y d us js g) in
     let sp : x.top % length (stack_of x) ≡ sp_of z = ap (λ k. x.top % k) (length_stack n x h) ∙ mod-eq_of_lt small ∙ t in
     record {
-      same = ap (λ (s : State). record s { sp = x.top % length (stack_of x) }) p.same ∙ moved (conc n y e) (stack_of y) (stack_of z) (x.top % length (stack_of x)) (sp_of z) (stack_split y d us js g) sp;
+      same = ap (λ (s : MachineState). record s { sp = x.top % length (stack_of x) }) p.same ∙ moved (conc n y e) (stack_of y) (stack_of z) (x.top % length (stack_of x)) (sp_of z) (stack_split y d us js g) sp;
       shape = split_shape n y d us js g p.shape;
       was = p.was;
     }

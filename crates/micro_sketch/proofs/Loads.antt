@@ -6,7 +6,7 @@ use Rattle.micro_isa.specs.declared.Micro.{Micro}
 use Rattle.micro_isa.specs.Operations.{operation_of}
 use Rattle.micro_isa.specs.Words.{micro_of}
 use Rattle.micro_isa.specs.declared.operation.Operation.TheVariants.{Stbc}
-use Rattle.jop_core.specs.State.{State}
+use Rattle.jop_core.specs.State.{MachineState}
 use Rattle.jop_core.specs.Operations.{popped, operated, looked_up, load_stall, code_words, code_of}
 use Rattle.jop_core.specs.Cycle.{with_nxt, with_opd, is_wait, at_boundary, is_ldin, is_stout}
 use Rattle.method_cache.specs.Contents.{is_cached, loaded}
@@ -45,7 +45,7 @@ pub record Loaded (n : ℕ) (x : Sketch) (e : Env) : Type 0 where
   pub output : (aplain Stbc false x).output ≡ x.output
 
 -- a hit and a miss, as the sketch counts them
-pub found_same : (b : Bool) (m : ℕ) (s : State) → s.stall ≡ 0 → let k : ℕ = if b then 0 else 1 in let w = code_words s.port.words m in
+pub found_same : (b : Bool) (m : ℕ) (s : MachineState) → s.stall ≡ 0 → let k : ℕ = if b then 0 else 1 in let w = code_words s.port.words m in
     looked_up b m s ≡ record s { method = m; hits = if b then (s.hits + 1) % 2 ^ 64 else s.hits; misses = if b then s.misses else (s.misses + 1) % 2 ^ 64; stall = stalls_for k (k * w) s.port.read; cache = if b then s.cache else loaded m (code_of s m) s.cache }
 found_same true m s z =
     let w = code_words s.port.words m in
@@ -70,7 +70,7 @@ stbc_on (c ∷ cs) n x e h f =
     let d = pop_sim n y e h ((and_parts (l && free) x.fine f).1) in
     record {
       same = ap (λ b. if b then looked_up (is_cached x.top x.cache) x.top (popped (conc n y e)) else popped (conc n y e)) ((and_parts l free g).0)
-          ∙ ap (λ (s : State). looked_up (is_cached x.top x.cache) x.top s) d.same ∙ found_same (is_cached x.top x.cache) x.top (conc n (apop y) e) refl;
+          ∙ ap (λ (s : MachineState). looked_up (is_cached x.top x.cache) x.top s) d.same ∙ found_same (is_cached x.top x.cache) x.top (conc n (apop y) e) refl;
       shape = record { low = d.shape.low; total = d.shape.total };
       was = (and_parts (l && free) x.fine f).1;
       idle = off_is x.busy ((and_parts l free g).1);
@@ -101,7 +101,7 @@ stbc_step n x e code opd nxt nd h p d w f =
     let one : next_scene (scene n x e) ≡ stalled_scene big n z (tick e) =
     scene_runs n x e m d (ap (λ o. is_wait o && nat_lt 0 (e.port - 1)) w)
     ∙ ap (λ o. around (with_nxt nxt (with_opd opd (operated (given (is_ldin o) x.answers) o (conc n x (tick e))))) (left_over (is_ldin o) x.answers) ((if is_stout o then x.top % 2 ^ 8 ∷ [] else []) ++ x.output)) w
-    ∙ ap (λ (s : State). around (with_nxt nxt (with_opd opd s)) x.answers x.output) g.same
+    ∙ ap (λ (s : MachineState). around (with_nxt nxt (with_opd opd s)) x.answers x.output) g.same
     ∙ ap (λ (i : List (Option ℕ)). around (with_nxt nxt (with_opd opd (record (conc n y (tick e)) { stall = big }))) i x.output) (sym g.answers)
     ∙ ap (λ (o : List ℕ). around (with_nxt nxt (with_opd opd (record (conc n y (tick e)) { stall = big }))) y.answers o) (sym g.output)
     ∙ flags_stalled opd nxt n y (tick e) big in

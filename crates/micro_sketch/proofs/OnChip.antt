@@ -8,19 +8,19 @@ use Rattle.std.proofs.lemmas.Grind.{reverse_onto}
 use Rattle.std.proofs.lemmas.List.{length-reverse, set-append_left, set-append_right}
 use Rattle.std.proofs.Math.Nat.{mod-eq_of_lt, add-mod_right}
 use Rattle.std.proofs.lemmas.Bool.Decides.{nat_tests}
-use Rattle.jop_core.specs.State.{State}
+use Rattle.jop_core.specs.State.{MachineState}
 use Rattle.jop_core.specs.Operations.{pushed, popped, word_at, place_of}
 use Rattle.micro_sketch.specs.Sketch.{Sketch, apush, apop, inside}
 use Rattle.micro_sketch.specs.Stands.{Env, Shaped, Does, conc, stack_of, base, sp_of, constants}
 
 -- the word at an on-chip place, a push of it, and a write there
-abbrev pub word_in : ℕ → State → ℕ
+abbrev pub word_in : ℕ → MachineState → ℕ
 word_in k s = word_at s k
 
-abbrev pub fetched : ℕ → State → State
+abbrev pub fetched : ℕ → MachineState → MachineState
 fetched k s = pushed (word_in k s) s
 
-abbrev pub put_in : (place word : ℕ) → State → State
+abbrev pub put_in : (place word : ℕ) → MachineState → MachineState
 put_in place word s = record s { stack = slice_set s.stack (place_of s place) word }
 
 pub split_at : (xs us : List ℕ) (y : ℕ) (ys : List ℕ) → xs ++ reverse_aux us (y ∷ ys) ≡ (xs ++ reverse us) ++ y ∷ ys
@@ -54,7 +54,7 @@ length_base x h = simp length-append (omega (arith, length_constants, h))
 pub length_stack : (n : ℕ) (x : Sketch) → Shaped n x → length (stack_of x) ≡ n
 length_stack n x h = simp (length-append, length-reverse_aux) (omega (arith, length_constants, h.low, h.total))
 
-pub moved : (s : State) (c d : List ℕ) (p q : ℕ) → c ≡ d → p ≡ q → record s { stack = c; sp = p } ≡ record s { stack = d; sp = q }
+pub moved : (s : MachineState) (c d : List ℕ) (p q : ℕ) → c ≡ d → p ≡ q → record s { stack = c; sp = p } ≡ record s { stack = d; sp = q }
 moved s c d p q e f = ap (λ (zs : List ℕ). record s { stack = zs; sp = p }) e ∙ ap (λ (k : ℕ). record s { stack = d; sp = k }) f
 
 pub push_on : (n : ℕ) (js : List ℕ) (x : Sketch) (e : Env) (v : ℕ) → let y = record x { above = js } in

@@ -8,7 +8,7 @@ use Rattle.micro_isa.specs.Words.{micro_of}
 use Rattle.micro_isa.specs.declared.operation.Operation.{Operation}
 use Rattle.micro_isa.specs.declared.operation.Operation.TheVariants.{Stmra, Stmwd, Wait, Stbc, Hltb, Hltu}
 use Rattle.std.proofs.Math.ListN.{length-set}
-use Rattle.jop_core.specs.State.{State}
+use Rattle.jop_core.specs.State.{MachineState}
 use Rattle.jop_core.specs.Operations.{pushed, stored, operated}
 use Rattle.jop_core.specs.Cycle.{is_wait, is_ldin}
 use Rattle.jop_core.specs.declared.halt.Halt.TheVariants.{Running}
@@ -29,7 +29,7 @@ stm_sim n x e k h f =
     let lt : k < 32 = ltb-true k 32 ((and_parts (nat_lt k 32) (astm k x).fine f).0) in
     let d = pop_sim n x e h ((and_parts (nat_lt k 32) (astm k x).fine f).1) in
     record {
-      same = ap (λ (s : State). put_in k x.top s) d.same ∙ write_low n (apop x) e k x.top d.shape lt;
+      same = ap (λ (s : MachineState). put_in k x.top s) d.same ∙ write_low n (apop x) e k x.top d.shape lt;
       shape = record { low = length-set (apop x).low k x.top ∙ d.shape.low; total = d.shape.total };
       was = d.was;
     }

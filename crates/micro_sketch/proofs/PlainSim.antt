@@ -5,7 +5,7 @@ use Rattle.std.proofs.Math.ListN.{length-set}
 use Rattle.std.proofs.Math.Nat.{mod-eq_of_lt}
 use Rattle.micro_isa.specs.declared.operation.Operation.{Operation}
 use Rattle.micro_isa.specs.declared.operation.Operation.TheVariants.{Nop, Pop, Dup, Add, Sub, And, Or, Xor, Shl, Shr, Ushr, Mul, Slt, Sltu, Ldo, Ldo8, Ldo16, Ldl, Stl, Ld0, Ld1, Ld2, Ld3, St0, St1, St2, St3, Ldvp, Stvp, Ldsp, Stsp, Ldjpc, Stjpc, Star, Ldmi, Stmi, Stmra, Stmwa, Stmwd, Wait, Ldmrd, Stbc, Jbr, Jbg, Ldin, Stout, Hltb, Hltu}
-use Rattle.jop_core.specs.State.{State}
+use Rattle.jop_core.specs.State.{MachineState}
 use Rattle.jop_core.specs.Operations.{pushed, popped, stored, operated, combined, holds, branch_target, sign_extended8, sign_extended16, input_word}
 use Rattle.jop_core.specs.Cycle.{is_ldin}
 use Rattle.jop_core.specs.declared.halt.Halt.{Halt}
@@ -18,7 +18,7 @@ use Rattle.micro_sketch.specs.Stands.{Env, Shaped, Does, conc, port_of, env_afte
 use Rattle.micro_sketch.proofs.OnChip.{fetched, put_in, push_sim, pop_sim, read_deep, write_deep, length_stack}
 
 -- what a pop is followed by, where it leaves the stack as it is
-pub then_set : (n : ℕ) (x : Sketch) (e e' : Env) (t : State → State) (u : Sketch → Sketch) → ((y : Sketch) → t (conc n y e) ≡ conc n (u y) e') → Shaped n (u (apop x)) →
+pub then_set : (n : ℕ) (x : Sketch) (e e' : Env) (t : MachineState → MachineState) (u : Sketch → Sketch) → ((y : Sketch) → t (conc n y e) ≡ conc n (u y) e') → Shaped n (u (apop x)) →
     Does n x (apop x) e (popped (conc n x e)) → Does n x (u (apop x)) e' (t (popped (conc n x e)))
 then_set n x e e' t u h s d = record { same = ap t d.same ∙ h (apop x); shape = s; was = d.was }
 
@@ -44,7 +44,7 @@ pub no_both : (a b : Bool) → b ≡ false → (a && b) ≡ true → ⊥
 no_both true b e f = cc
 no_both false b e f = cc
 
-pub either : (b : Bool) (s : State) (j : ℕ) → (if b then record (popped s) { jpc = j } else popped s) ≡ record (popped s) { jpc = if b then j else s.jpc }
+pub either : (b : Bool) (s : MachineState) (j : ℕ) → (if b then record (popped s) { jpc = j } else popped s) ≡ record (popped s) { jpc = if b then j else s.jpc }
 either true s j = refl
 either false s j = refl
 
@@ -56,7 +56,7 @@ store_on n (c ∷ cs) x e k h f =
     let g : x.fine ≡ true = (and_parts (inside k x) x.fine f).1 in
     let d = pop_sim n y e h g in
     let here : inside k (apop y) ≡ true = i in
-    record { same = ap (λ (s : State). put_in k x.top s) d.same ∙ write_deep n (apop y) e k x.top d.shape here; shape = record { low = d.shape.low; total = (shape_deep n (apop y) (k - 64) x.top d.shape).total }; was = g }
+    record { same = ap (λ (s : MachineState). put_in k x.top s) d.same ∙ write_deep n (apop y) e k x.top d.shape here; shape = record { low = d.shape.low; total = (shape_deep n (apop y) (k - 64) x.top d.shape).total }; was = g }
 
 pub store_sim : (n : ℕ) (x : Sketch) (e : Env) (k : ℕ) → Shaped n x → (astore k x).fine ≡ true → Does n x (astore k x) e (stored k (conc n x e))
 store_sim n x e k h f = store_on n x.under x e k h f
@@ -64,7 +64,7 @@ store_sim n x e k h f = store_on n x.under x e k h f
 pub binary_sim : (op : Operation) (n : ℕ) (x : Sketch) (e : Env) → Shaped n x → (abinary op x).fine ≡ true → Does n x (abinary op x) e (record (popped (conc n x e)) { a = combined op x.next x.top })
 binary_sim op n x e h f =
     let d = pop_sim n x e h f in
-    record { same = ap (λ (s : State). record s { a = combined op x.next x.top }) d.same; shape = record { low = d.shape.low; total = d.shape.total }; was = d.was }
+    record { same = ap (λ (s : MachineState). record s { a = combined op x.next x.top }) d.same; shape = record { low = d.shape.low; total = d.shape.total }; was = d.was }
 
 pub ar_sim : (n : ℕ) (x : Sketch) → Shaped n x → inside x.ar x ≡ true → x.ar % n ≡ x.ar
 ar_sim n x h i =
@@ -79,7 +79,7 @@ jbr_on i (c ∷ cs) n x e h f =
     let y = record x { under = c ∷ cs } in
     let d = pop_sim n y e h f in
     record {
-      same = either (holds x.opcode x.next x.top) (conc n y e) (branch_target (conc n y e)) ∙ ap (λ (s : State). record s { jpc = if holds x.opcode x.next x.top then atarget x else x.jpc }) d.same;
+      same = either (holds x.opcode x.next x.top) (conc n y e) (branch_target (conc n y e)) ∙ ap (λ (s : MachineState). record s { jpc = if holds x.opcode x.next x.top then atarget x else x.jpc }) d.same;
       shape = record { low = d.shape.low; total = d.shape.total };
       was = d.was;
     }
@@ -95,7 +95,7 @@ vp_sim input n x e h f =
     let total = h.total in
     let lt : x.top < n = omega arith in
     record {
-      same = ap (λ k. record (popped (conc n x e)) { vp = x.top % k }) (length_stack n x h) ∙ ap (λ k. record (popped (conc n x e)) { vp = k }) (mod-eq_of_lt lt) ∙ ap (λ (s : State). record s { vp = x.top }) d.same;
+      same = ap (λ k. record (popped (conc n x e)) { vp = x.top % k }) (length_stack n x h) ∙ ap (λ k. record (popped (conc n x e)) { vp = k }) (mod-eq_of_lt lt) ∙ ap (λ (s : MachineState). record s { vp = x.top }) d.same;
       shape = record { low = d.shape.low; total = d.shape.total };
       was = d.was;
     }
@@ -150,8 +150,8 @@ plain_sim Stvp guess n x e b h f = vp_sim None n x e h f
 plain_sim Ldsp guess n x e b h f = push_sim n x e (length x.deep + 63 + length x.under) h f
 plain_sim Stsp guess n x e b h f = cc
 plain_sim Ldjpc guess n x e b h f = push_sim n x e x.jpc h f
-plain_sim Stjpc guess n x e b h f = let d = pop_sim n x e h f in record { same = ap (λ (s : State). record s { jpc = x.top % 2 ^ 16 }) d.same; shape = record { low = d.shape.low; total = d.shape.total }; was = d.was }
-plain_sim Star guess n x e b h f = let d = pop_sim n x e h f in record { same = ap (λ (k : ℕ). record (popped (conc n x e)) { ar = x.top % k }) (length_stack n x h) ∙ ap (λ (s : State). record s { ar = x.top % n }) d.same; shape = record { low = d.shape.low; total = d.shape.total }; was = d.was }
+plain_sim Stjpc guess n x e b h f = let d = pop_sim n x e h f in record { same = ap (λ (s : MachineState). record s { jpc = x.top % 2 ^ 16 }) d.same; shape = record { low = d.shape.low; total = d.shape.total }; was = d.was }
+plain_sim Star guess n x e b h f = let d = pop_sim n x e h f in record { same = ap (λ (k : ℕ). record (popped (conc n x e)) { ar = x.top % k }) (length_stack n x h) ∙ ap (λ (s : MachineState). record s { ar = x.top % n }) d.same; shape = record { low = d.shape.low; total = d.shape.total }; was = d.was }
 plain_sim Ldmi guess n x e b h f =
     let d = load_sim n x e x.ar h f in
     record { same = ap (λ k. fetched k (conc n x e)) (ar_sim n x h ((and_parts (inside x.ar x) (apush (get_or x.deep (x.ar - 64) 0) x).fine f).0)) ∙ d.same; shape = d.shape; was = d.was }
@@ -160,9 +160,9 @@ plain_sim Stmi guess n x e b h f =
     record { same = ap (λ k. stored k (conc n x e)) (ar_sim n x h ((and_parts (inside x.ar x) (apop x).fine f).0)) ∙ d.same; shape = d.shape; was = d.was }
 plain_sim Stmra guess n x e b h f =
     let d = pop_sim n x e h f in
-    record { same = ap (λ (s : State). record s { port = read_started x.top (port_of x e) }) d.same; shape = record { low = d.shape.low; total = d.shape.total }; was = d.was }
-plain_sim Stmwa guess n x e b h f = let d = pop_sim n x e h f in record { same = ap (λ (s : State). record s { write_address = x.top }) d.same; shape = record { low = d.shape.low; total = d.shape.total }; was = d.was }
-plain_sim Stmwd guess n x e b h f = let d = pop_sim n x e h f in record { same = ap (λ (s : State). record s { port = write_started x.write_address x.top (port_of x e) }) d.same; shape = record { low = d.shape.low; total = d.shape.total }; was = d.was }
+    record { same = ap (λ (s : MachineState). record s { port = read_started x.top (port_of x e) }) d.same; shape = record { low = d.shape.low; total = d.shape.total }; was = d.was }
+plain_sim Stmwa guess n x e b h f = let d = pop_sim n x e h f in record { same = ap (λ (s : MachineState). record s { write_address = x.top }) d.same; shape = record { low = d.shape.low; total = d.shape.total }; was = d.was }
+plain_sim Stmwd guess n x e b h f = let d = pop_sim n x e h f in record { same = ap (λ (s : MachineState). record s { port = write_started x.write_address x.top (port_of x e) }) d.same; shape = record { low = d.shape.low; total = d.shape.total }; was = d.was }
 plain_sim Wait guess n x e b h f = record { same = refl; shape = record { low = h.low; total = h.total }; was = (and_parts (off_entry x && off_raise x) x.fine f).1 }
 plain_sim Ldmrd guess n x e b h f = push_sim n x e x.value h f
 plain_sim Stbc guess n x e b h f = absurd (b refl)

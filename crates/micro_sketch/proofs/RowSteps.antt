@@ -3,7 +3,7 @@ use Rattle.std.proofs.Common.{◌≡◌, ℕ, List, ◌++◌, refl, sym, ap, ◌
 use Rattle.std.specs.declared.option.Option.{Option}
 use Rattle.micro_flow.specs.declared.CostParams.{CostParams}
 use Rattle.micro_flow.specs.Costs.{CostsAreSmall}
-use Rattle.jop_core.specs.State.{State}
+use Rattle.jop_core.specs.State.{MachineState}
 use Rattle.jop_core.specs.Cycle.{entry_of}
 use Rattle.micro_sketch.specs.Sketch.{Sketch}
 use Rattle.micro_sketch.specs.Stands.{Env, PortFits, stalls, stalls_for}
@@ -52,7 +52,7 @@ run_comes_soon costs n p op x e s range h runs answers given =
     comes_to_boundary p (entry_of op) cost.cycles n z r.run.after e s h.same at.entry r.run.reaches r.run.done cost.is (omega (arith, cost.small, r.short))
 
 -- the run of some words
-abbrev finish_run : (n : ℕ) (p : CostParams) (op : ℕ) (x : Sketch) (e : Env) (s : State) → StandsAt n p op x e s → Finishes x → Run n x e
+abbrev finish_run : (n : ℕ) (p : CostParams) (op : ℕ) (x : Sketch) (e : Env) (s : MachineState) → StandsAt n p op x e s → Finishes x → Run n x e
 finish_run n p op x e s h g = record { after = end_of x g; reaches = finish_runs n p op x e s h g; done = g.done }
 
 pub finish_comes_soon : CostsAreSmall → FinishComesSoon
@@ -106,7 +106,7 @@ row_is_silent n p op f x e s h m answers output = record {
   output = m.follows.output ∙ output ∙ sym h.silent;
 }
 
-did_row : (n : ℕ) (p : CostParams) (op : ℕ) (f : Effect) (x : Sketch) (e : Env) (cycles : ℕ) (new : State) (m : Makes f x) → LandsAt n p op (end_of x (finishes f x m)) e cycles new → DidRow n p op f x e cycles new
+did_row : (n : ℕ) (p : CostParams) (op : ℕ) (f : Effect) (x : Sketch) (e : Env) (cycles : ℕ) (new : MachineState) (m : Makes f x) → LandsAt n p op (end_of x (finishes f x m)) e cycles new → DidRow n p op f x e cycles new
 did_row n p op f x e cycles new m l =
     let kept = m.follows.kept in
     record {
@@ -137,8 +137,8 @@ silent_row_is_done n p op f x e old new t0 t1 h m silent far =
 
 pub row_runs_on : RowRunsOn
 row_runs_on n p op cycles f x e new d = (
-  ap (λ (s : State). s.halt) d.same ∙ d.follows.running,
-  λ raises. no_entry_raises d.after.opcode (sym (ap (λ (s : State). s.mpc) d.same ∙ d.follows.mpc) ∙ raises),
+  ap (λ (s : MachineState). s.halt) d.same ∙ d.follows.running,
+  λ raises. no_entry_raises d.after.opcode (sym (ap (λ (s : MachineState). s.mpc) d.same ∙ d.follows.mpc) ∙ raises),
 )
 
 -- and is about to run it

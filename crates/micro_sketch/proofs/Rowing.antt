@@ -5,7 +5,7 @@ use Rattle.std.proofs.lemmas.List.{length-reverse}
 use Rattle.microcode_rom.specs.declared.TheConstants.{ENTRIES, RAISE}
 use Rattle.micro_flow.specs.declared.CostParams.{CostParams}
 use Rattle.micro_flow.specs.Walk.{IsGreatestTime}
-use Rattle.jop_core.specs.State.{State}
+use Rattle.jop_core.specs.State.{MachineState}
 use Rattle.jop_core.specs.Cycle.{at_boundary, asks_input, output_of, entry_of}
 use Rattle.jop_core.specs.Scene.{Scene, begun, left_over, next_scene, run, output_during}
 use Rattle.device_traits.specs.Told.{Told}
@@ -32,18 +32,18 @@ pub leads : (n : ℕ) (x y : Sketch) (e : Env) (r : Reaches n x y e) → IsDone 
 leads n x y e r done = record { positive = r.positive; same = r.same; boundary = r.ending ∙ done.done; quiet = r.quiet }
 
 -- that boundary comes soon where the cost is small
-pub comes_to_boundary : (p : CostParams) (address c n : ℕ) (x y : Sketch) (e : Env) (s : State) → s ≡ conc n x e → StartsAt p address x e → Reaches n x y e → IsDone y
+pub comes_to_boundary : (p : CostParams) (address c n : ℕ) (x y : Sketch) (e : Env) (s : MachineState) → s ≡ conc n x e → StartsAt p address x e → Reaches n x y e → IsDone y
     → IsGreatestTime p address c → c + stalls y p.r < 2 ^ 62 → ComesToBoundary s x.answers
 comes_to_boundary p address c n x y e s same starts r done greatest few =
     let most = within_greatest p address c n x y e starts r done greatest in
-    let P : State → Type 0 = λ z. ComesToBoundary z x.answers in
+    let P : MachineState → Type 0 = λ z. ComesToBoundary z x.answers in
     subst P (sym same) (comes_soon r.cycles (conc n x e) x.answers (omega (arith, most, few)) (Leads-comes r.cycles (scene n x e) (scene n y r.env) (leads n x y e r done)))
 
 -- a machine that has come to its next boundary stands as y, where its device gave answers that x expected
-pub arrives : (n : ℕ) (x y : Sketch) (e : Env) (old new : State) (t0 t1 : Told) → old ≡ conc n x e → (r : Reaches n x y e) → IsDone y
+pub arrives : (n : ℕ) (x y : Sketch) (e : Env) (old new : MachineState) (t0 t1 : Told) → old ≡ conc n x e → (r : Reaches n x y e) → IsDone y
     → (far : Arrived old new t0 t1) (more : List (Option ℕ)) → x.answers ≡ far.answers ++ more → Landed old new t0 t1 far more x.output r.cycles (scene n y r.env)
 arrives n x y e old new t0 t1 same r done far more answered =
-    let P : State → Type 0 = λ z. Leads r.cycles (record { state = z; answers = far.answers ++ more; output = x.output }) (scene n y r.env) in
+    let P : MachineState → Type 0 = λ z. Leads r.cycles (record { state = z; answers = far.answers ++ more; output = x.output }) (scene n y r.env) in
     let Q : List (Option ℕ) → Type 0 = λ z. Leads r.cycles (record { state = conc n x e; answers = z; output = x.output }) (scene n y r.env) in
     Leads-landed r.cycles old new t0 t1 far more x.output (scene n y r.env) (subst P (sym same) (subst Q answered (leads n x y e r done)))
 
@@ -87,7 +87,7 @@ putting_adds_one i k c below puts =
     )
 
 -- a run that a fault cut short was on its way to the boundary
-pub broke_before : (cycles m : ℕ) (old new : State) (t0 t1 : Told) (answers more : List (Option ℕ)) → RanCycles m old new t0 t1 answers → HasNoBoundary (suc m) old answers
+pub broke_before : (cycles m : ℕ) (old new : MachineState) (t0 t1 : Told) (answers more : List (Option ℕ)) → RanCycles m old new t0 t1 answers → HasNoBoundary (suc m) old answers
     → ComesAfter cycles old (answers ++ more) → m < cycles
 broke_before cycles m old new t0 t1 answers more ran quiet comes =
     ⊎_elim
@@ -110,7 +110,7 @@ reads_nothing n x e old new t0 t1 same none takes broke =
     let t = takes all in
     let s = t.run in
     let c = begun old all in
-    let P : State → Type 0 = λ z. (ComesAfter s.reaches.cycles z all) × ((run s.reaches.cycles (record { state = z; answers = all; output = x.output })).answers ≡ all) in
+    let P : MachineState → Type 0 = λ z. (ComesAfter s.reaches.cycles z all) × ((run s.reaches.cycles (record { state = z; answers = all; output = x.output })).answers ≡ all) in
     let there = subst P (sym same) (
       Leads-comes s.reaches.cycles (scene n (expecting all x) e) (scene n s.after s.reaches.env) (leads n (expecting all x) s.after e s.reaches s.done),
       ap (λ (z : Scene). z.answers) s.reaches.same ∙ t.answers,
@@ -118,7 +118,7 @@ reads_nothing n x e old new t0 t1 same none takes broke =
     let Q : List ℕ → Type 0 = λ z. (run s.reaches.cycles (record { state = old; answers = all; output = z })).answers ≡ all in
     let kept : (run s.reaches.cycles c).answers ≡ all = subst Q none there.1 in
     let before = broke_before s.reaches.cycles broke.cycles old new t0 broke.before broke.answers (None ∷ []) broke.ran broke.quiet there.0 in
-    let fewer = asking_takes_one broke.cycles s.reaches.cycles c None [] before (broke.ran.left (None ∷ [])) (ap (λ (z : State). asks_input z) (broke.ran.state (None ∷ [])) ∙ broke.tried.4) in
+    let fewer = asking_takes_one broke.cycles s.reaches.cycles c None [] before (broke.ran.left (None ∷ [])) (ap (λ (z : MachineState). asks_input z) (broke.ran.state (None ∷ [])) ∙ broke.tried.4) in
     absurd (omega (arith, fewer, ap (λ (z : List (Option ℕ)). length z) kept))
 
 pub writes_nothing : WritesNothing
@@ -127,7 +127,7 @@ writes_nothing n x e old new t0 t1 same none puts broke =
     let t = puts all in
     let s = t.run in
     let c = begun old all in
-    let P : State → Type 0 = λ z. (ComesAfter s.reaches.cycles z all) × ((run s.reaches.cycles (record { state = z; answers = all; output = x.output })).output ≡ x.output) in
+    let P : MachineState → Type 0 = λ z. (ComesAfter s.reaches.cycles z all) × ((run s.reaches.cycles (record { state = z; answers = all; output = x.output })).output ≡ x.output) in
     let there = subst P (sym same) (
       Leads-comes s.reaches.cycles (scene n (expecting all x) e) (scene n s.after s.reaches.env) (leads n (expecting all x) s.after e s.reaches s.done),
       ap (λ (z : Scene). z.output) s.reaches.same ∙ t.output,
@@ -135,11 +135,11 @@ writes_nothing n x e old new t0 t1 same none puts broke =
     let Q : List ℕ → Type 0 = λ z. (run s.reaches.cycles (record { state = old; answers = all; output = z })).output ≡ z in
     let kept : (run s.reaches.cycles c).output ≡ [] = subst Q none there.1 in
     let before = broke_before s.reaches.cycles broke.cycles old new t0 broke.before broke.answers [] broke.ran broke.quiet there.0 in
-    let more = putting_adds_one broke.cycles s.reaches.cycles c before (λ empty. broke.tried.4 (ap (λ (z : State). output_of z) (sym (broke.ran.state [])) ∙ empty)) in
+    let more = putting_adds_one broke.cycles s.reaches.cycles c before (λ empty. broke.tried.4 (ap (λ (z : MachineState). output_of z) (sym (broke.ran.state [])) ∙ empty)) in
     absurd (omega (arith, more, ap (λ (z : List ℕ). length z) kept))
 
 -- and a step that comes to the next boundary so took no answer
-pub silent_takes_nothing : (n : ℕ) (x : Sketch) (e : Env) (old new : State) (t0 t1 : Told) → old ≡ conc n x e
+pub silent_takes_nothing : (n : ℕ) (x : Sketch) (e : Env) (old new : MachineState) (t0 t1 : Told) → old ≡ conc n x e
     → AlwaysSilent n x e → (far : Arrived old new t0 t1) → far.answers ≡ []
 silent_takes_nothing n x e old new t0 t1 same silent far =
     let s = silent far.answers in
@@ -151,7 +151,7 @@ empty_before [] before h = refl
 empty_before (x ∷ out) before h = absurd (omega (arith, ap (λ (z : List ℕ). length z) h, length-append (reverse (x ∷ out)) before, length-reverse (x ∷ out)))
 
 -- and put nothing out
-pub silent_puts_nothing : (n : ℕ) (x : Sketch) (e : Env) (old new : State) (t0 t1 : Told) → old ≡ conc n x e
+pub silent_puts_nothing : (n : ℕ) (x : Sketch) (e : Env) (old new : MachineState) (t0 t1 : Told) → old ≡ conc n x e
     → AlwaysSilent n x e → (far : Arrived old new t0 t1) → output_during far.cycles (begun old far.answers) ≡ []
 silent_puts_nothing n x e old new t0 t1 same silent far =
     let s = silent far.answers in

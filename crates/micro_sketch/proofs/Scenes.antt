@@ -1,7 +1,7 @@
 -- Runs by their last cycle, in parts, after other output, and with further answers behind those they take.
 use Rattle.std.proofs.Common.{◌≡◌, ◌≢◌, ℕ, zero, suc, ◌+◌, ◌≤◌, Bool, true, false, List, [], ◌∷◌, ◌++◌, length, None, refl, sym, ap, ◌∙◌, subst, arith, append_assoc, zero-add, suc-add}
 use Rattle.std.specs.declared.option.Option.{Option}
-use Rattle.jop_core.specs.State.{State}
+use Rattle.jop_core.specs.State.{MachineState}
 use Rattle.jop_core.specs.Cycle.{cycle_of, asks_input, output_of}
 use Rattle.jop_core.specs.Scene.{Scene, begun, rest_of, given, left_over, next_scene, run}
 pub use Rattle.micro_sketch.specs.StepLaws.{after_output, followed_by, UsesUp}
@@ -15,10 +15,10 @@ run-add zero n c = rw zero-add refl
 run-add (suc m) n c = rw suc-add (run-add m n (next_scene c))
 
 -- a scene by its parts
-pub scene_is : (c : Scene) (s : State) (answers : List (Option ℕ)) (output : List ℕ) → c.state ≡ s → c.answers ≡ answers → c.output ≡ output
+pub scene_is : (c : Scene) (s : MachineState) (answers : List (Option ℕ)) (output : List ℕ) → c.state ≡ s → c.answers ≡ answers → c.output ≡ output
     → c ≡ record { state = s; answers = answers; output = output }
 scene_is c s answers output states answered put =
-    let P : State → Type 0 = λ z. c ≡ record { state = z; answers = c.answers; output = c.output } in
+    let P : MachineState → Type 0 = λ z. c ≡ record { state = z; answers = c.answers; output = c.output } in
     let Q : List (Option ℕ) → Type 0 = λ z. c ≡ record { state = s; answers = z; output = c.output } in
     let R : List ℕ → Type 0 = λ z. c ≡ record { state = s; answers = answers; output = z } in
     subst R put (subst Q answered (subst P states refl))

@@ -1,6 +1,6 @@
 -- Cycles in which a machine stalls.
 use Rattle.std.proofs.Common.{◌≡◌, ℕ, suc, zero, ◌+◌, ◌-◌, ◌<◌, ◌&&◌, ◌||◌, ◌==◌, Bool, true, false, List, [], ◌++◌, nat_lt, if◌then◌else◌, refl, ap, ◌∙◌, arith, None, lt-ltb, eqb-true}
-use Rattle.jop_core.specs.State.{State}
+use Rattle.jop_core.specs.State.{MachineState}
 use Rattle.jop_core.specs.Cycle.{cycle_of, counted, at_boundary, is_running, entry_of, asks_input, output_of}
 use Rattle.jop_core.specs.declared.halt.Halt.TheVariants.{Running}
 use Rattle.jop_core.specs.Scene.{Scene, next_scene, run, given, left_over}
@@ -23,7 +23,7 @@ pub record Stalled (k : ℕ) (n : ℕ) (z : Sketch) (e : Env) (c : Scene) : Type
 abbrev pub stalled_scene : ℕ → ℕ → Sketch → Env → Scene
 stalled_scene k n z e = around (record (conc n z e) { stall = k }) z.answers z.output
 
-pub cycle_stalls : (s : State) (k : ℕ) → s.stall ≡ suc k → (cycle_of None s ≡ record (counted s) { stall = k }) × (asks_input s ≡ false) × (output_of s ≡ [])
+pub cycle_stalls : (s : MachineState) (k : ℕ) → s.stall ≡ suc k → (cycle_of None s ≡ record (counted s) { stall = k }) × (asks_input s ≡ false) × (output_of s ≡ [])
 unfolding cycle_of asks_input output_of
 cycle_stalls s k e =
     let some : nat_lt 0 s.stall ≡ true = ap (λ j. nat_lt 0 j) e ∙ lt-ltb 0 (suc k) (omega arith) in
@@ -32,10 +32,10 @@ cycle_stalls s k e =
 
 pub stall_next : (k n : ℕ) (z : Sketch) (e : Env) → next_scene (stalled_scene (suc k) n z e) ≡ stalled_scene k n z (tick e)
 stall_next k n z e =
-    let s : State = record (conc n z e) { stall = suc k } in
+    let s : MachineState = record (conc n z e) { stall = suc k } in
     let c = cycle_stalls s k refl in
     ap (λ b. around (cycle_of (given b z.answers) s) (left_over b z.answers) (output_of s ++ z.output)) c.1
-    ∙ ap (λ (t : State). around t z.answers (output_of s ++ z.output)) c.0
+    ∙ ap (λ (t : MachineState). around t z.answers (output_of s ++ z.output)) c.0
     ∙ ap (λ (o : List ℕ). around (record (counted s) { stall = k }) z.answers (o ++ z.output)) c.2
 
 pub off_stall : (k n : ℕ) (z : Sketch) (e : Env) → z.halt ≡ Running → at_boundary (stalled_scene (suc k) n z e).state ≡ false

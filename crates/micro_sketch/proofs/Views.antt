@@ -3,7 +3,7 @@ use Rattle.std.proofs.Common.{◌≡◌, ℕ, ◌+◌, ◌-◌, ◌%◌, List, �
 use mathlib.Core.List.{reverse_aux, reverse_aux-eq}
 use Rattle.std.proofs.lemmas.List.{take-append-drop, reverse-reverse, length-reverse}
 use Rattle.std.proofs.Math.Nat.{mod-eq_of_lt}
-use Rattle.jop_core.specs.State.{State}
+use Rattle.jop_core.specs.State.{MachineState}
 use Rattle.jop_core.specs.Scene.{begun}
 use Rattle.micro_sketch.specs.Sketch.{Sketch}
 use Rattle.micro_sketch.specs.Stands.{Shaped, conc, scene, stack_of, constants, sp_of}
@@ -20,12 +20,12 @@ split_four d u c h =
     sym (take-append-drop 32 c) ∙ ap (λ v. take 32 c ++ v) mid ∙ ap (λ v. take 32 c ++ (constants ++ v)) (sym (take-append-drop d r))
     ∙ sym (regroup (take 32 c) constants (take d r) t) ∙ ap (λ v. (take 32 c ++ (constants ++ take d r)) ++ v) (sym last)
 
-pub lengths : (n d u : ℕ) (s : State) → Viewable n d u s → (length (take 32 s.stack) ≡ 32) × (length (take d (moving s)) ≡ d) × (length (reverse (take u (drop d (moving s)))) ≡ u)
+pub lengths : (n d u : ℕ) (s : MachineState) → Viewable n d u s → (length (take 32 s.stack) ≡ 32) × (length (take d (moving s)) ≡ d) × (length (reverse (take u (drop d (moving s)))) ≡ u)
 lengths n d u s h =
     let w = h.words in let r = h.room in
     (simp length-take (omega arith), simp (length-take, length-drop) (omega arith), simp (length-reverse, length-take, length-drop) (omega arith))
 
-pub stands : (n d u : ℕ) (answers : List (Option ℕ)) (s : State) → Viewable n d u s → s ≡ conc n (sketch_of d u answers s) (env_of s)
+pub stands : (n d u : ℕ) (answers : List (Option ℕ)) (s : MachineState) → Viewable n d u s → s ≡ conc n (sketch_of d u answers s) (env_of s)
 stands n d u answers s h =
     let x = sketch_of d u answers s in
     let l = lengths n d u s h in
@@ -37,18 +37,18 @@ stands n d u answers s h =
     ∙ ap (λ (k : ℕ). record s { stack = stack_of x; sp = sp_of x; ar = k }) ar
     ∙ ap (λ (k : ℕ). record s { stack = stack_of x; sp = sp_of x; ar = s.ar % n; stall = k }) h.stall
 
-pub view_shape : (n d u : ℕ) (answers : List (Option ℕ)) (s : State) → Viewable n d u s → Shaped n (sketch_of d u answers s)
+pub view_shape : (n d u : ℕ) (answers : List (Option ℕ)) (s : MachineState) → Viewable n d u s → Shaped n (sketch_of d u answers s)
 view_shape n d u answers s h =
     let w = h.words in let r = h.room in
     let l = lengths n d u s h in
     record { low = l.0; total = let a : length (drop u (drop d (moving s))) ≡ n - 64 - d - u = simp length-drop (omega arith) in omega arith }
 
-pub views : (n d u : ℕ) (answers : List (Option ℕ)) (s : State) → Viewable n d u s → (s ≡ conc n (sketch_of d u answers s) (env_of s)) × Shaped n (sketch_of d u answers s)
+pub views : (n d u : ℕ) (answers : List (Option ℕ)) (s : MachineState) → Viewable n d u s → (s ≡ conc n (sketch_of d u answers s) (env_of s)) × Shaped n (sketch_of d u answers s)
 views n d u answers s h = (stands n d u answers s h, view_shape n d u answers s h)
 
 -- a machine that begins is what its sketch stands for, whichever turns its branches may take
-pub begins : (left : ℕ → ℕ) (n d u : ℕ) (answers : List (Option ℕ)) (s : State) → Viewable n d u s → let x : Sketch = record (sketch_of d u answers s) { left = left } in
+pub begins : (left : ℕ → ℕ) (n d u : ℕ) (answers : List (Option ℕ)) (s : MachineState) → Viewable n d u s → let x : Sketch = record (sketch_of d u answers s) { left = left } in
     (begun s answers ≡ scene n x (env_of s)) × Shaped n x
 begins left n d u answers s h =
     let g = view_shape n d u answers s h in
-    (ap (λ (t : State). begun t answers) (stands n d u answers s h), record { low = g.low; total = g.total })
+    (ap (λ (t : MachineState). begun t answers) (stands n d u answers s h), record { low = g.low; total = g.total })

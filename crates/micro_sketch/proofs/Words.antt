@@ -6,7 +6,7 @@ use Rattle.micro_isa.specs.declared.Body.TheVariants.{Plain, Stm, Ldm, Ldi, Bz, 
 use Rattle.micro_isa.specs.declared.Micro.{Micro}
 use Rattle.micro_isa.specs.Operations.{operation_of}
 use Rattle.micro_isa.specs.Words.{micro_of}
-use Rattle.jop_core.specs.State.{State}
+use Rattle.jop_core.specs.State.{MachineState}
 use Rattle.jop_core.specs.Operations.{popped, stored}
 use Rattle.jop_core.specs.Cycle.{branched}
 use Rattle.micro_flow.specs.Walk.{passed, onward}
@@ -60,7 +60,7 @@ some_step (Bz to) opd nxt guess n x e nd h p d f =
     let way : t ≡ guess = same_is guess t ((and_parts (same_bool guess t) (apop x).fine g).0) in
     let s = pop_sim n x (tick e) h ((and_parts (same_bool guess t) (apop x).fine g).1) in
     let k = keeps_pop x in
-    branch_step n x y e m guess to nd p d refl (ap (λ b. around (branched b to (popped (conc n x (tick e)))) x.answers x.output) way ∙ ap (λ (z : State). around (branched guess to z) x.answers x.output) s.same
+    branch_step n x y e m guess to nd p d refl (ap (λ b. around (branched b to (popped (conc n x (tick e)))) x.answers x.output) way ∙ ap (λ (z : MachineState). around (branched guess to z) x.answers x.output) s.same
     ∙ ap (λ (i : List (Option ℕ)). around (branched guess to (conc n (apop x) (tick e))) i x.output) (sym k.answers) ∙ ap (λ (o : List ℕ). around (branched guess to (conc n (apop x) (tick e))) (apop x).answers o) (sym k.output))
     (record { low = s.shape.low; total = s.shape.total }) s.was (record { left = k.left; loads = k.loads; words = k.words; mpc = k.mpc; busy = k.busy; halt = k.halt; answers = k.answers; output = k.output }) (λ p s. refl) f
 some_step (Bnz to) opd nxt guess n x e nd h p d f =
@@ -71,7 +71,7 @@ some_step (Bnz to) opd nxt guess n x e nd h p d f =
     let way : t ≡ guess = same_is guess t ((and_parts (same_bool guess t) (apop x).fine g).0) in
     let s = pop_sim n x (tick e) h ((and_parts (same_bool guess t) (apop x).fine g).1) in
     let k = keeps_pop x in
-    branch_step n x y e m guess to nd p d refl (ap (λ b. around (branched b to (popped (conc n x (tick e)))) x.answers x.output) way ∙ ap (λ (z : State). around (branched guess to z) x.answers x.output) s.same
+    branch_step n x y e m guess to nd p d refl (ap (λ b. around (branched b to (popped (conc n x (tick e)))) x.answers x.output) way ∙ ap (λ (z : MachineState). around (branched guess to z) x.answers x.output) s.same
     ∙ ap (λ (i : List (Option ℕ)). around (branched guess to (conc n (apop x) (tick e))) i x.output) (sym k.answers) ∙ ap (λ (o : List ℕ). around (branched guess to (conc n (apop x) (tick e))) (apop x).answers o) (sym k.output))
     (record { low = s.shape.low; total = s.shape.total }) s.was (record { left = k.left; loads = k.loads; words = k.words; mpc = k.mpc; busy = k.busy; halt = k.halt; answers = k.answers; output = k.output }) (λ p s. refl) f
 some_step (Jmp to) opd nxt guess n x e nd h p d f =

@@ -4,7 +4,7 @@ use Rattle.microcode_rom.specs.declared.TheConstants.{RAISE}
 use Rattle.micro_isa.specs.declared.operation.Operation.TheVariants.{Stvp}
 use Rattle.micro_flow.specs.declared.CostParams.{CostParams}
 use Rattle.jop_core.specs.declared.halt.Halt.TheVariants.{Running}
-use Rattle.jop_core.specs.State.{State}
+use Rattle.jop_core.specs.State.{MachineState}
 use Rattle.micro_sketch.specs.Sketch.{Sketch, apop, lead, opd_byte}
 use Rattle.micro_sketch.specs.Stands.{Env, Shaped, PortFits, Goes, Reaches}
 use Rattle.micro_sketch.specs.Frames.{RunsNext}
@@ -22,5 +22,5 @@ FramePlaceMoves = (n : ℕ) (x : Sketch) (e : Env) (opd nxt : Bool) → Goes x �
 
 -- After a row that goes on in another frame the machine stands at an opcode's entry, which is never that of the raise routine.
 abbrev pub SwitchRunsOn : Type 0
-SwitchRunsOn = (n : ℕ) (p : CostParams) (op cycles : ℕ) (f : Switch) (x : Sketch) (e : Env) (new : State) → DidSwitch n p op f x e cycles new
+SwitchRunsOn = (n : ℕ) (p : CostParams) (op cycles : ℕ) (f : Switch) (x : Sketch) (e : Env) (new : MachineState) → DidSwitch n p op f x e cycles new
     → (new.halt ≡ Running) × (new.mpc ≢ RAISE)

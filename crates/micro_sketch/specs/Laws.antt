@@ -6,7 +6,7 @@ use Rattle.micro_isa.specs.declared.operation.Operation.TheVariants.{Ldmi, Stsp}
 use Rattle.microcode_rom.specs.declared.TheConstants.{ENTRIES, RAISE}
 use Rattle.micro_flow.specs.declared.CostParams.{CostParams}
 use Rattle.micro_flow.specs.Walk.{turns_at, IsGreatestTime, IsCost, IsRaiseCost}
-use Rattle.jop_core.specs.State.{State}
+use Rattle.jop_core.specs.State.{MachineState}
 use Rattle.jop_core.specs.Cycle.{at_boundary}
 use Rattle.jop_core.specs.Scene.{Scene, run}
 use Rattle.micro_sketch.specs.Sketch.{Sketch, apop, apush, exec, lead, opd_byte}
@@ -55,7 +55,7 @@ LowWordIsLoaded = (n : ℕ) (x : Sketch) (e : Env) (opd nxt : Bool) → Goes x �
 
 -- Each machine in range is what its sketch stands for, wherever its words are split.
 abbrev pub SeenAsSketch : Type 0
-SeenAsSketch = (n d u : ℕ) (answers : List (Option ℕ)) (s : State) → Viewable n d u s
+SeenAsSketch = (n d u : ℕ) (answers : List (Option ℕ)) (s : MachineState) → Viewable n d u s
     → (s ≡ conc n (sketch_of d u answers s) (env_of s)) × Shaped n (sketch_of d u answers s)
 
 -- a run of so many cycles from x to z, with what it leaves out at the end

@@ -5,7 +5,7 @@ use Rattle.micro_flow.specs.declared.CostParams.{CostParams}
 use Rattle.micro_flow.specs.Walk.{turns_at, IsCost}
 pub use Rattle.micro_flow.specs.Costs.{AreInRange}
 use Rattle.jop_core.specs.declared.halt.Halt.TheVariants.{Running}
-use Rattle.jop_core.specs.State.{State}
+use Rattle.jop_core.specs.State.{MachineState}
 use Rattle.jop_core.specs.Cycle.{entry_of}
 use Rattle.jop_core.specs.Scene.{begun, output_during}
 use Rattle.device_traits.specs.Told.{Told}
@@ -17,7 +17,7 @@ use Rattle.micro_sketch.specs.View.{Viewable, sketch_of, env_of}
 
 -- The machine with n on-chip words is what the sketch stands for. It is about to run the opcode, with nothing under way, and there is room on
 -- its stack: for at least three words that may be taken off below the two on top, and for sixteen more.
-pub record StandsAt (n : ℕ) (p : CostParams) (op : ℕ) (x : Sketch) (e : Env) (s : State) : Type 0 where
+pub record StandsAt (n : ℕ) (p : CostParams) (op : ℕ) (x : Sketch) (e : Env) (s : MachineState) : Type 0 where
   pub same : s ≡ conc n x e
   pub shape : Shaped n x
   pub entry : AtEntry p op x e
@@ -76,7 +76,7 @@ pub record Follows (f : Effect) (x y : Sketch) : Type 0 where
   pub kept : IsKept x y
 
 -- The machine came to the next boundary as the row says, in at most the opcode's cost, and its port is idle.
-pub record DidRow (n : ℕ) (p : CostParams) (op : ℕ) (f : Effect) (x : Sketch) (e : Env) (cycles : ℕ) (new : State) : Type 0 where
+pub record DidRow (n : ℕ) (p : CostParams) (op : ℕ) (f : Effect) (x : Sketch) (e : Env) (cycles : ℕ) (new : MachineState) : Type 0 where
   pub after : Sketch
   pub env : Env
   pub same : new ≡ conc n after env
@@ -90,12 +90,12 @@ pub record DidRow (n : ℕ) (p : CostParams) (op : ℕ) (f : Effect) (x : Sketch
   pub cost : (c : ℕ) → IsCost op p c → cycles ≤ c
 
 -- no byte was taken in or put out on the way to the next boundary
-pub record WasSilent (old new : State) (told told' : Told) (a : Arrived old new told told') : Type 0 where
+pub record WasSilent (old new : MachineState) (told told' : Told) (a : Arrived old new told told') : Type 0 where
   pub taken : a.answers ≡ []
   pub put : output_during a.cycles (begun old a.answers) ≡ []
 
 -- a machine that is about to run the opcode, with d words from place 64 on that are taken as deep, and u more as those below B
-pub record AtOpcode (n d u : ℕ) (p : CostParams) (op : ℕ) (s : State) : Type 0 where
+pub record AtOpcode (n d u : ℕ) (p : CostParams) (op : ℕ) (s : MachineState) : Type 0 where
   pub viewable : Viewable n d u s
   pub under : 3 ≤ u
   pub above : 64 + d + u + 16 ≤ n
@@ -113,11 +113,11 @@ begins_row p x = record x { left = turns_at p; output = []; done = false }
 
 -- Such a machine is what its sketch stands for.
 abbrev pub SeenAtOpcode : Type 0
-SeenAtOpcode = (n d u : ℕ) (p : CostParams) (op : ℕ) (answers : List (Option ℕ)) (s : State) → AtOpcode n d u p op s
+SeenAtOpcode = (n d u : ℕ) (p : CostParams) (op : ℕ) (answers : List (Option ℕ)) (s : MachineState) → AtOpcode n d u p op s
     → StandsAt n p op (begins_row p (sketch_of d u answers s)) (env_of s) s
 
 -- After a row the machine is about to run the next opcode, where its stack still has room.
 abbrev pub RowsLeadOn : Type 0
-RowsLeadOn = (n : ℕ) (p q : CostParams) (op cycles : ℕ) (f : Effect) (x : Sketch) (e : Env) (old new : State) → StandsAt n p op x e old
+RowsLeadOn = (n : ℕ) (p q : CostParams) (op cycles : ℕ) (f : Effect) (x : Sketch) (e : Env) (old new : MachineState) → StandsAt n p op x e old
     → (d : DidRow n p op f x e cycles new)
     → q.r ≡ p.r → q.w ≡ p.w → 3 ≤ length d.after.under → 16 ≤ length d.after.above → StandsAt n q d.after.opcode (begins_row q d.after) d.env new

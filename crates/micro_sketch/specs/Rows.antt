@@ -9,7 +9,7 @@ use Rattle.micro_flow.specs.declared.CostParams.{CostParams}
 use Rattle.micro_flow.specs.Walk.{IsCost}
 use Rattle.jop_core.specs.declared.halt.Halt.{Halt}
 use Rattle.jop_core.specs.declared.halt.Halt.TheVariants.{Running}
-use Rattle.jop_core.specs.State.{State}
+use Rattle.jop_core.specs.State.{MachineState}
 use Rattle.jop_core.specs.Cycle.{entry_of}
 use Rattle.micro_sketch.specs.Sketch.{Sketch, exec, start, abyte}
 use Rattle.micro_sketch.specs.Stands.{Env, Shaped, Reaches, IsDone, conc, stalls}
@@ -292,7 +292,7 @@ pub record RunsSwitch (n : ℕ) (p : CostParams) (op : ℕ) (f : Switch) (x : Sk
   pub cost : (c : ℕ) → IsCost op p c → reaches.cycles ≤ c + stalls after p.r
 
 -- The machine came to the next boundary so, and its port is idle.
-pub record DidSwitch (n : ℕ) (p : CostParams) (op : ℕ) (f : Switch) (x : Sketch) (e : Env) (cycles : ℕ) (new : State) : Type 0 where
+pub record DidSwitch (n : ℕ) (p : CostParams) (op : ℕ) (f : Switch) (x : Sketch) (e : Env) (cycles : ℕ) (new : MachineState) : Type 0 where
   pub after : Sketch
   pub env : Env
   pub same : new ≡ conc n after env
@@ -306,7 +306,7 @@ pub record DidSwitch (n : ℕ) (p : CostParams) (op : ℕ) (f : Switch) (x : Ske
   pub cost : (c : ℕ) → IsCost op p c → cycles ≤ c + stalls after p.r
 
 -- where a machine stands that came to the next boundary as y
-pub record LandsAt (n : ℕ) (p : CostParams) (op : ℕ) (y : Sketch) (e : Env) (cycles : ℕ) (new : State) : Type 0 where
+pub record LandsAt (n : ℕ) (p : CostParams) (op : ℕ) (y : Sketch) (e : Env) (cycles : ℕ) (new : MachineState) : Type 0 where
   pub env : Env
   pub same : new ≡ conc n y env
   pub shape : Shaped n y

@@ -7,7 +7,7 @@ use Rattle.memory_timing.specs.Port.{Port}
 use Rattle.micro_flow.specs.declared.CostParams.{CostParams}
 use Rattle.micro_flow.specs.Walk.{TimeKind, Reads, Writes, kind_of, Walker, walk}
 use Rattle.jop_core.specs.declared.halt.Halt.TheVariants.{Running}
-use Rattle.jop_core.specs.State.{State}
+use Rattle.jop_core.specs.State.{MachineState}
 use Rattle.jop_core.specs.Cycle.{at_boundary}
 use Rattle.jop_core.specs.Scene.{Scene, run}
 use Rattle.micro_sketch.specs.Sketch.{Sketch}
@@ -36,7 +36,7 @@ abbrev pub port_of : Sketch → Env → Port
 port_of x e = record { words = x.memory; read = e.read; write = e.write; count = e.port; value = x.value }
 
 -- the machine with n on-chip words
-abbrev pub conc : ℕ → Sketch → Env → State
+abbrev pub conc : ℕ → Sketch → Env → MachineState
 conc n x e = record {
   a = x.top;
   b = x.next;
@@ -67,7 +67,7 @@ pub record Shaped (n : ℕ) (x : Sketch) : Type 0 where
   pub total : 64 + length x.deep + length x.under + length x.above ≡ n
 
 -- s is what the sketch y stands for, which was come to from x
-pub record Does (n : ℕ) (x y : Sketch) (e : Env) (s : State) : Type 0 where
+pub record Does (n : ℕ) (x y : Sketch) (e : Env) (s : MachineState) : Type 0 where
   pub same : s ≡ conc n y e
   pub shape : Shaped n y
   pub was : x.fine ≡ true

@@ -1,14 +1,14 @@
 -- What follows of steps.
 use Rattle.std.specs.Prelude.{ℕ, suc, ◌≡◌, ◌+◌, ◌≤◌, List, [], ◌∷◌, ◌++◌, length, reverse}
 use Rattle.std.specs.declared.option.Option.{Option}
-use Rattle.jop_core.specs.State.{State, seen_of}
+use Rattle.jop_core.specs.State.{MachineState, seen_of}
 use Rattle.jop_core.specs.Scene.{Scene, begun, run, output_during, seen_during}
 use Rattle.device_traits.specs.Told.{Told}
 use Rattle.micro_sketch.specs.Step.{RanCycles}
 
 -- cycles that follow others make one run with them
 abbrev pub StepsAddUp : Type 0
-StepsAddUp = (m n : ℕ) (old mid new : State) (t0 t1 t2 : Told) (earlier later : List (Option ℕ))
+StepsAddUp = (m n : ℕ) (old mid new : MachineState) (t0 t1 t2 : Told) (earlier later : List (Option ℕ))
     → RanCycles m old mid t0 t1 earlier → RanCycles n mid new t1 t2 later → RanCycles (m + n) old new t0 t2 (earlier ++ later)
 
 -- a scene before which these bytes were put out
@@ -31,9 +31,9 @@ pub record AreRunLaws : Type 0 where
   pub output_adds : (m n : ℕ) (c : Scene) → output_during (m + n) c ≡ output_during m c ++ output_during n (run m c)
   pub output_after_output : (k : ℕ) (before : List ℕ) (c : Scene) → output_during k (after_output before c) ≡ output_during k c
   pub seen_one_more : (k : ℕ) (c : Scene) → seen_during (suc k) c ≡ seen_during k c ++ seen_of (run k c).state ∷ []
-  pub ran_none : (s : State) (told : Told) → RanCycles 0 s s told told []
+  pub ran_none : (s : MachineState) (told : Told) → RanCycles 0 s s told told []
   pub ran_adds : StepsAddUp
-  pub ran_ends : (n : ℕ) (old new : State) (t0 t1 : Told) (answers : List (Option ℕ)) → RanCycles n old new t0 t1 answers
+  pub ran_ends : (n : ℕ) (old new : MachineState) (t0 t1 : Told) (answers : List (Option ℕ)) → RanCycles n old new t0 t1 answers
       → (run n (begun old answers)).state ≡ new
   -- answers behind those that a run takes don't matter to it
   pub answers_shrink : (k : ℕ) (c : Scene) → length (run k c).answers ≤ length c.answers

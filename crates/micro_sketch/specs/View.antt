@@ -1,17 +1,17 @@
 -- The sketch of a machine.
 use Rattle.std.specs.Prelude.{ℕ, ◌≡◌, ◌+◌, ◌<◌, ◌≤◌, true, false, List, [], length, take, drop, reverse}
 use Rattle.std.specs.declared.option.Option.{Option}
-use Rattle.jop_core.specs.State.{State}
+use Rattle.jop_core.specs.State.{MachineState}
 use Rattle.micro_sketch.specs.Sketch.{Sketch}
 use Rattle.micro_sketch.specs.Stands.{Env, constants}
 
 -- the on-chip words from place 64 on
-abbrev pub moving : State → List ℕ
+abbrev pub moving : MachineState → List ℕ
 moving s = drop 32 (drop 32 s.stack)
 
 -- The sketch of a machine before it puts anything out, where these answers are to come: d words from place 64 on are
 -- taken as deep, and u more as those below B. No branch has turns.
-abbrev pub sketch_of : (d u : ℕ) → (answers : List (Option ℕ)) → State → Sketch
+abbrev pub sketch_of : (d u : ℕ) → (answers : List (Option ℕ)) → MachineState → Sketch
 sketch_of d u answers s = record {
   top = s.a;
   next = s.b;
@@ -44,11 +44,11 @@ sketch_of d u answers s = record {
 }
 
 -- what its sketch leaves out
-abbrev pub env_of : State → Env
+abbrev pub env_of : MachineState → Env
 env_of s = record { clock = s.clock; port = s.port.count; read = s.port.read; write = s.port.write }
 
 -- a machine with n on-chip words that its sketch stands for
-pub record Viewable (n d u : ℕ) (s : State) : Type 0 where
+pub record Viewable (n d u : ℕ) (s : MachineState) : Type 0 where
   pub words : length s.stack ≡ n
   pub room : 64 + d + u ≤ n
   pub sp : s.sp ≡ d + 63 + u

@@ -6,7 +6,7 @@ use Rattle.opcodes.specs.declared.instruction.Instr.{Instr}
 use Rattle.opcodes.specs.declared.instruction.DecodeFault.{DecodeFault}
 use Rattle.opcodes.specs.declared.instruction.DecodeFault.TheVariants.{Short}
 use Rattle.opcodes.specs.Bytes.{u1, u2, s4}
-use Rattle.opcodes.specs.Form.{Operand, Absent, UnsignedByte, UnsignedShort, SignedByte, SignedShort, Offset, WideOffset, Operands, Form, NotAnOpcode, Fixed, Widened, TableSwitch, LookupSwitch, Wide}
+use Rattle.opcodes.specs.Form.{FixedOperand, Absent, UnsignedByte, UnsignedShort, SignedByte, SignedShort, Offset, WideOffset, Operands, Form, NotAnOpcode, Fixed, Widened, TableSwitch, LookupSwitch, Wide}
 use Rattle.opcodes.specs.Instruction.{decoded, spelled_at, widened_at, within, fixed_at, table_switch_at, lookup_switch_at, value_at, width, operands_width, prefix_width, default_place}
 use Rattle.opcodes.specs.Row.{row_of}
 use Rattle.opcodes.proofs.DecodeLemmas.{decoded-form, wide-inside, wide-end}
@@ -45,7 +45,7 @@ module _ (from n : ℕ) (old new : List ℕ) (agree : Agree from n old new) wher
       let second = same_u2 (place + 2) (omega arith) (omega arith) in
       cc
 
-  same_value : (o : Operand) (place : ℕ) → from ≤ place → place + width o ≤ n → value_at new place o ≡ value_at old place o
+  same_value : (o : FixedOperand) (place : ℕ) → from ≤ place → place + width o ≤ n → value_at new place o ≡ value_at old place o
   same_value Absent place low h = refl
   same_value UnsignedByte place low h = let e = agree.same place low (omega arith) in cc
   same_value UnsignedShort place low h = let e = same_u2 place low (omega arith) in cc

@@ -5,13 +5,13 @@ use Rattle.std.proofs.Math.ListN.{get_or-map}
 use Rattle.std.proofs.lemmas.List.FromFn.{get_or-map-range_with_len}
 use Rattle.opcodes.specs.declared.table.Entry.{Entry}
 use Rattle.opcodes.specs.Entry.{entry_row, length_by, parts_of}
-use Rattle.opcodes.specs.Row.{Row, row_of}
+use Rattle.opcodes.specs.Row.{OpcodeRow, row_of}
 
 pub entry_at : (entries : List Entry) (d : Entry) → map parts_of entries ≡ map row_of (range_with_len 0 256) → (op : ℕ) → op < 256 → entry_row (get_or entries op d) ≡ row_of op
 unfolding entry_row
 entry_at entries d e op h =
     sym (get_or-map parts_of entries op d)
-    ∙ ap (λ (list : List Row). get_or list op (parts_of d)) e
+    ∙ ap (λ (list : List OpcodeRow). get_or list op (parts_of d)) e
     ∙ get_or-map-range_with_len row_of 0 256 op op (parts_of d) (omega arith) (omega arith)
 
 abbrev pub length_of : ℕ → ℕ

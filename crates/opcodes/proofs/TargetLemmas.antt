@@ -5,7 +5,7 @@ use Rattle.std.proofs.lemmas.Bool.{cases_Bool, false≢true}
 use Rattle.opcodes.specs.declared.instruction.Instr.{Instr}
 use Rattle.opcodes.specs.declared.table.Kind.{Kind}
 use Rattle.opcodes.specs.declared.table.Kind.TheVariants.{Plain, Branch, Jump, Switch, Return, Throw, Invoke}
-use Rattle.opcodes.specs.Form.{Operand, Absent, UnsignedByte, UnsignedShort, SignedByte, SignedShort, Offset, WideOffset, Form, NotAnOpcode, Fixed, Widened, TableSwitch, LookupSwitch, Wide}
+use Rattle.opcodes.specs.Form.{FixedOperand, Absent, UnsignedByte, UnsignedShort, SignedByte, SignedShort, Offset, WideOffset, Form, NotAnOpcode, Fixed, Widened, TableSwitch, LookupSwitch, Wide}
 use Rattle.opcodes.specs.Row.{row_of}
 use Rattle.opcodes.specs.declared.instruction.Case.{Case}
 use Rattle.opcodes.specs.Target.{cases_by, operand_offset, first_offset_by, targets_of, is_offset, leads, TargetsFitKind}
@@ -50,7 +50,7 @@ module _ (code : List ℕ) (pc : ℕ) (instr : Instr) where
   abbrev targets_by : Form → List ℤ
   targets_by form = map (λ offset. pos pc +ℤ offset) (first_offset_by form instr ++ map (λ (c : Case). c.offset) (cases_by form code instr))
 
-  one_offset : (o : Operand) → is_offset o ≡ true → operand_offset o instr ≡ instr.first ∷ []
+  one_offset : (o : FixedOperand) → is_offset o ≡ true → operand_offset o instr ≡ instr.first ∷ []
   one_offset Absent e = absurd (false≢true e)
   one_offset UnsignedByte e = absurd (false≢true e)
   one_offset UnsignedShort e = absurd (false≢true e)
@@ -59,7 +59,7 @@ module _ (code : List ℕ) (pc : ℕ) (instr : Instr) where
   one_offset Offset e = refl
   one_offset WideOffset e = refl
 
-  no_offset : (o : Operand) → is_offset o ≡ false → operand_offset o instr ≡ []
+  no_offset : (o : FixedOperand) → is_offset o ≡ false → operand_offset o instr ≡ []
   no_offset Absent e = refl
   no_offset UnsignedByte e = refl
   no_offset UnsignedShort e = refl

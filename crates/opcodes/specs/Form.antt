@@ -2,26 +2,26 @@
 use Rattle.std.specs.Prelude.{ℕ}
 
 -- an operand of fixed width; the numbers have their high byte first
-pub data Operand : Type 0 where
+pub data FixedOperand : Type 0 where
   -- none
-  Absent : Operand
+  Absent : FixedOperand
   -- one byte: the index of a local variable or of a pool entry, an array code, a count
-  UnsignedByte : Operand
+  UnsignedByte : FixedOperand
   -- two bytes: the index of a local variable or of a pool entry
-  UnsignedShort : Operand
+  UnsignedShort : FixedOperand
   -- one byte, signed: a constant
-  SignedByte : Operand
+  SignedByte : FixedOperand
   -- two bytes, signed: a constant
-  SignedShort : Operand
+  SignedShort : FixedOperand
   -- two bytes, signed: the branch offset from the opcode's place
-  Offset : Operand
+  Offset : FixedOperand
   -- four bytes, signed: the branch offset from the opcode's place
-  WideOffset : Operand
+  WideOffset : FixedOperand
 
 -- the operands in order, and how many bytes without a number follow them
 pub record Operands : Type 0 where
-  pub first : Operand
-  pub second : Operand
+  pub first : FixedOperand
+  pub second : FixedOperand
   pub unused : ℕ
 
 pub data Form : Type 0 where
@@ -38,10 +38,10 @@ pub data Form : Type 0 where
   -- another opcode with wider operands
   Wide : Form
 
-abbrev pub one : Operand → Operands
+abbrev pub one : FixedOperand → Operands
 one operand = record { first = operand; second = Absent; unused = 0 }
 
-abbrev pub two : Operand → Operand → Operands
+abbrev pub two : FixedOperand → FixedOperand → Operands
 two first second = record { first = first; second = second; unused = 0 }
 
 abbrev pub nothing : Form

@@ -5,12 +5,13 @@ use Rattle.opcodes.specs.declared.instruction.Instr.{Instr}
 use Rattle.opcodes.specs.declared.instruction.DecodeFault.{DecodeFault}
 use Rattle.opcodes.specs.declared.instruction.DecodeFault.TheVariants.{NoOpcode, Short}
 use Rattle.opcodes.specs.Bytes.{u1, u2, s1, s2, s4}
-use Rattle.opcodes.specs.Form.{Operand, Absent, UnsignedByte, UnsignedShort, SignedByte, SignedShort, Offset, WideOffset, Operands, Form, NotAnOpcode, Fixed}
+use Rattle.opcodes.specs.Form.{FixedOperand, Absent, UnsignedByte, UnsignedShort, SignedByte, SignedShort, Offset, WideOffset, Operands, Form, NotAnOpcode}
+use Rattle.opcodes.specs.Form.{Fixed}
 use Rattle.opcodes.specs.Form.{Widened, TableSwitch, LookupSwitch, Wide}
 use Rattle.opcodes.specs.Row.{row_of}
 
 -- how many bytes an operand takes
-abbrev pub width : Operand → ℕ
+abbrev pub width : FixedOperand → ℕ
 width Absent = 0
 width UnsignedByte = 1
 width UnsignedShort = 2
@@ -20,7 +21,7 @@ width Offset = 2
 width WideOffset = 4
 
 -- the number of an operand at a place; one that is absent has 0
-abbrev pub value_at : List ℕ → ℕ → Operand → ℤ
+abbrev pub value_at : List ℕ → ℕ → FixedOperand → ℤ
 value_at code place Absent = pos 0
 value_at code place UnsignedByte = pos (u1 code place)
 value_at code place UnsignedShort = pos (u2 code place)

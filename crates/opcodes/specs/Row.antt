@@ -8,7 +8,7 @@ use Rattle.opcodes.specs.Form.{wide_branch, local, increment, dimensions, interf
 -- What is said of an opcode: its number, its mnemonic, the form of its operands, where control goes after it, whether it may raise, and whether this machine
 -- runs it. It runs no floats and doubles, and leaves out lmul, ldiv, lrem, jsr, ret, invokedynamic, multianewarray, jsr_w and breakpoint; wide is no
 -- instruction of its own, but the beginning of one.
-pub record Row : Type 0 where
+pub record OpcodeRow : Type 0 where
   pub number : ℕ
   pub mnemonic : List ℕ
   pub form : Form
@@ -16,7 +16,7 @@ pub record Row : Type 0 where
   pub raises : Bool
   pub supported : Bool
 
-abbrev pub row : ℕ → List ℕ → Form → Kind → (raises supported : Bool) → Row
+abbrev pub row : ℕ → List ℕ → Form → Kind → (raises supported : Bool) → OpcodeRow
 row number mnemonic form kind raises supported = record {
   number = number;
   mnemonic = mnemonic;
@@ -28,15 +28,15 @@ row number mnemonic form kind raises supported = record {
 }
 
 -- what is said of a byte that is no opcode
-abbrev pub no_row : ℕ → Row
+abbrev pub no_row : ℕ → OpcodeRow
 no_row byte = row byte (codes "none") NotAnOpcode Plain false false
 
 -- the row with a number, among some rows
-abbrev pub find_row : ℕ → List Row → Row
+abbrev pub find_row : ℕ → List OpcodeRow → OpcodeRow
 find_row byte [] = no_row byte
 find_row byte (first ∷ others) = if first.number == byte then first else find_row byte others
 
-abbrev pub rows : List Row
+abbrev pub rows : List OpcodeRow
 rows =
     row 0 (codes "nop") nothing Plain false true
     ∷ row 1 (codes "aconst_null") nothing Plain false true
@@ -246,5 +246,5 @@ rows =
     ∷ []
 
 -- the row of an opcode
-unfoldable pub row_of : ℕ → Row
+unfoldable pub row_of : ℕ → OpcodeRow
 row_of byte = find_row byte rows

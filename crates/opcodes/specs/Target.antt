@@ -5,7 +5,7 @@ use Rattle.opcodes.specs.declared.instruction.Instr.{Instr}
 use Rattle.opcodes.specs.declared.instruction.Case.{Case}
 use Rattle.opcodes.specs.declared.table.Kind.TheVariants.{Plain, Branch, Jump, Switch, Return, Throw, Invoke}
 use Rattle.opcodes.specs.Bytes.{u1, s4}
-use Rattle.opcodes.specs.Form.{Operand, Offset, WideOffset, Form, Fixed, TableSwitch, LookupSwitch}
+use Rattle.opcodes.specs.Form.{FixedOperand, Offset, WideOffset, Form, Fixed, TableSwitch, LookupSwitch}
 use Rattle.opcodes.specs.Instruction.{decoded}
 use Rattle.opcodes.specs.Row.{row_of}
 
@@ -27,7 +27,7 @@ abbrev pub cases_of : List ℕ → Instr → List Case
 cases_of code instr = cases_by (row_of instr.op).form code instr
 
 -- the branch offset that an operand is
-abbrev pub operand_offset : Operand → Instr → List ℤ
+abbrev pub operand_offset : FixedOperand → Instr → List ℤ
 operand_offset Offset instr = instr.first ∷ []
 operand_offset WideOffset instr = instr.first ∷ []
 operand_offset _ instr = []
@@ -45,7 +45,7 @@ targets_of code pc instr =
     map (λ offset. pos pc +ℤ offset) (first_offset_by (row_of instr.op).form instr ++ map (λ c. c.offset) (cases_of code instr))
 
 -- whether an operand is a branch offset
-abbrev pub is_offset : Operand → Bool
+abbrev pub is_offset : FixedOperand → Bool
 is_offset Offset = true
 is_offset WideOffset = true
 is_offset _ = false
@@ -78,7 +78,7 @@ pub record TargetsFitKind (code : List ℕ) (pc : ℕ) (instr : Instr) : Type 0 
   pub invoke : (row_of instr.op).kind ≡ Invoke → targets_of code pc instr ≡ []
 
 -- a whole instruction is not empty and ends within the code, and the cases of a switch reach just to its end
-pub record IsWithin (code : List ℕ) (pc : ℕ) (instr : Instr) : Type 0 where
+pub record EndsWithin (code : List ℕ) (pc : ℕ) (instr : Instr) : Type 0 where
   pub not_empty : 0 < instr.length
   pub ends : pc + instr.length ≤ length code
   pub table_switch : (row_of instr.op).form ≡ TableSwitch → instr.table + 4 * instr.count ≡ pc + instr.length
@@ -99,4 +99,4 @@ IsLocal code other pc instr =
     decoded code pc ≡ Ok instr → pc + instr.length ≤ length other → SameBytes pc (pc + instr.length) code other → IsSameInstruction code other pc instr
 
 abbrev pub WholeIsWithin : List ℕ → ℕ → Type 0
-WholeIsWithin code pc = (instr : Instr) → decoded code pc ≡ Ok instr → IsWithin code pc instr
+WholeIsWithin code pc = (instr : Instr) → decoded code pc ≡ Ok instr → EndsWithin code pc instr

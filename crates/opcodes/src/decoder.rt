@@ -9,10 +9,10 @@ ghost use Rattle.opcodes.specs.Instruction.{decoded, width, value_at, prefix_wid
 ghost use Rattle.opcodes.specs.Instruction.{within};
 ghost use Rattle.opcodes.specs.Fault.{IsNoOpcodeAt, PassesEnd};
 ghost use Rattle.opcodes.specs.Form.{Wide};
-ghost use Rattle.opcodes.specs.Target.{IsWithin};
+ghost use Rattle.opcodes.specs.Target.{EndsWithin};
 
 use crate::instruction::{DecodeFault, Instr};
-use crate::table::{Form, Operand, Operands, fixed_length, form_of};
+use crate::table::{FixedOperand, Form, Operands, fixed_length, form_of};
 
 /// The instruction that begins at a place of a code.
 pub fn decode(code: &[u8], pc: u32) -> Result<Instr, DecodeFault>
@@ -21,7 +21,7 @@ pub fn decode(code: &[u8], pc: u32) -> Result<Instr, DecodeFault>
     ensures exact { result ≡ decoded code.now pc }
     ensures no_opcode { (byte : ℕ) → (result ≡ Err (DecodeFault.NoOpcode byte)) ↔ IsNoOpcodeAt code.now pc byte }
     ensures short { (result ≡ Err DecodeFault.Short) ↔ PassesEnd code.now pc }
-    ensures within { IfOk result (IsWithin code.now pc) }
+    ensures within { IfOk result (EndsWithin code.now pc) }
     ensures no_further { (more : List ℕ) → OnOk result (decoded (code.now ++ more) pc ≡ result) }
 {
     instruction_at(code, pc)
@@ -112,34 +112,37 @@ fn fixed(code: &[u8], pc: u32, wide: bool, operands: Operands) -> Result<Instr, 
 
 /// How many bytes an operand takes.
 #[inline(always)]
-fn width_of(operand: Operand) -> usize
+fn width_of(operand: FixedOperand) -> usize
     ensures value { result ≡ width (entry_operand operand) }
     ensures short { result ≤ 4 }
 {
     match operand {
-        Operand::Absent => 0,
-        Operand::UnsignedByte | Operand::SignedByte => 1,
-        Operand::UnsignedShort | Operand::SignedShort | Operand::Offset => 2,
-        Operand::WideOffset => 4,
+        FixedOperand::Absent => 0,
+        FixedOperand::UnsignedByte | FixedOperand::SignedByte => 1,
+        FixedOperand::UnsignedShort | FixedOperand::SignedShort | FixedOperand::Offset => 2,
+        FixedOperand::WideOffset => 4,
     }
 }
 
 /// The number of an operand at a place of a code.
 #[inline(always)]
-fn number(code: &[u8], place: usize, operand: Operand) -> i32
+fn number(code: &[u8], place: usize, operand: FixedOperand) -> i32
     requires { place + width (entry_operand operand) ≤ length code.now }
     ensures { result ≡ value_at code.now place (entry_operand operand) }
 {
     match operand {
-        Operand::Absent => 0,
-        Operand::UnsignedByte => i32::from(code[place]),
-        Operand::SignedByte => i32::from(i8::from_be_bytes([code[place]])),
-        Operand::UnsignedShort => i32::from(u16::from_be_bytes([code[place], code[place + 1]])),
-        Operand::SignedShort | Operand::Offset => i32::from(i16::from_be_bytes([
+        FixedOperand::Absent => 0,
+        FixedOperand::UnsignedByte => i32::from(code[place]),
+        FixedOperand::SignedByte => i32::from(i8::from_be_bytes([code[place]])),
+        FixedOperand::UnsignedShort => i32::from(u16::from_be_bytes([
             code[place],
             code[place + 1],
         ])),
-        Operand::WideOffset => signed_word(code, place),
+        FixedOperand::SignedShort | FixedOperand::Offset => i32::from(i16::from_be_bytes([
+            code[place],
+            code[place + 1],
+        ])),
+        FixedOperand::WideOffset => signed_word(code, place),
     }
 }
 

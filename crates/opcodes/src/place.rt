@@ -9,7 +9,7 @@ ghost use Rattle.opcodes.specs.Target.{cases_of, targets_of, leads, or_none};
 
 use crate::decoder::{length, signed_word};
 use crate::instruction::{Case, Instr};
-use crate::table::{Form, Operand, form_of};
+use crate::table::{FixedOperand, Form, form_of};
 use base::NoMemory;
 use std::alloc::Global;
 
@@ -65,7 +65,10 @@ fn has_offset(form: Form) -> bool
     ensures { result ≡ leads (entry_form form) }
 {
     match form {
-        Form::Fixed(operands) => matches!(operands.first, Operand::Offset | Operand::WideOffset),
+        Form::Fixed(operands) => matches!(
+            operands.first,
+            FixedOperand::Offset | FixedOperand::WideOffset
+        ),
         Form::TableSwitch | Form::LookupSwitch => true,
         _ => false,
     }

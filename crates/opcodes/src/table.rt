@@ -25,7 +25,7 @@ pub enum Kind {
 
 /// An operand of fixed width. Its number has the high byte first.
 #[derive(Clone, Copy)]
-pub(crate) enum Operand {
+pub(crate) enum FixedOperand {
     Absent,
     UnsignedByte,
     UnsignedShort,
@@ -38,8 +38,8 @@ pub(crate) enum Operand {
 /// Operands of fixed width, and the number of bytes behind them that give no number.
 #[derive(Clone, Copy)]
 pub(crate) struct Operands {
-    pub(crate) first: Operand,
-    pub(crate) second: Operand,
+    pub(crate) first: FixedOperand,
+    pub(crate) second: FixedOperand,
     pub(crate) unused: u8,
 }
 
@@ -71,8 +71,8 @@ pub(crate) struct Entry {
 macro_rules! fixed {
     ($first:ident $second:ident $unused:literal) => {
         Operands {
-            first: Operand::$first,
-            second: Operand::$second,
+            first: FixedOperand::$first,
+            second: FixedOperand::$second,
             unused: $unused,
         }
     };

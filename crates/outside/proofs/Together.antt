@@ -5,10 +5,10 @@ use Rattle.std.specs.declared.result.Result.{Result}
 use Rattle.std.specs.declared.option.Option.{Option}
 use Rattle.std.specs.declared.alloc.Global.{Global}
 use Rattle.std.proofs.lemmas.List.Sums.{sum_by-append, sum_by-cons}
-use Rattle.outside.specs.Outside.{Rose, IsWhole, HasLength}
+use Rattle.outside.specs.Outside.{Rose, IsWhole, HasFileLength}
 use Rattle.outside.specs.declared.operands.FilesFault.{FilesFault}
 use Rattle.outside.specs.declared.operands.FilesFault.TheVariants.{TooBig, ReadFault, NoMemory}
-use Rattle.outside.specs.Files.{FilesTold, OnlyWords, most_bytes, AreFiles, IsTooBigAt, FailsAt, IsCause, FileCause, contents}
+use Rattle.outside.specs.Files.{FilesTold, OnlyWords, most_bytes, AreFiles, IsTooBigAt, FailsAt, IsFilesCause, FileCause, contents}
 
 -- ---- calls on words one after another
 
@@ -71,9 +71,9 @@ files_more told first word left files bytes sum are whole fits =
 -- ---- why they weren't read
 
 pub cause_more : (old mid new : FilesTold) (first word end left : ℕ) (files : List (List ℕ)) (fault : FilesFault) → first ≤ word → word < end → sum_by length files + left ≡ most_bytes → AreFiles old.told first word files
-    → OnlyWords old mid first word → FileCause mid new word left fault → OnlyWords mid new word (word + 1) → IsCause old new first end fault
+    → OnlyWords old mid first word → FileCause mid new word left fault → OnlyWords mid new word (word + 1) → IsFilesCause old new first end fault
 cause_more old mid new first word end left files (TooBig operand sum) order below all are before cause now =
-    let T : Option (List ℕ) → Type 0 = λ told. HasLength told cause.1 in
+    let T : Option (List ℕ) → Type 0 = λ told. HasFileLength told cause.1 in
     let P : ℕ → Type 0 = λ i. IsTooBigAt old first end i sum × OnlyWords old new first (i + 1) in
     let is = cause.3 in
     let many = cause.4 in
@@ -86,5 +86,5 @@ cause_more old mid new first word end left files (ReadFault operand) order below
     subst P (sym cause.0) (record { below = below; before = files; read = are; rose = subst F same cause.1 }, only_more old mid new first word order before now)
 cause_more old mid new first word end left files NoMemory order below all are before cause now = only_wider old new first (word + 1) end (omega (arith, below)) (only_more old mid new first word order before now)
 
-pub err_cause : {A : Type 0} (old new : FilesTold) (first end : ℕ) (r : Result A FilesFault) (fault : FilesFault) → r ≡ Err fault → IsCause old new first end fault → IfErr r (IsCause old new first end)
-err_cause {A} old new first end r fault is cause = let P : Result A FilesFault → Type 0 = λ q. IfErr q (IsCause old new first end) in subst P (sym is) cause
+pub err_cause : {A : Type 0} (old new : FilesTold) (first end : ℕ) (r : Result A FilesFault) (fault : FilesFault) → r ≡ Err fault → IsFilesCause old new first end fault → IfErr r (IsFilesCause old new first end)
+err_cause {A} old new first end r fault is cause = let P : Result A FilesFault → Type 0 = λ q. IfErr q (IsFilesCause old new first end) in subst P (sym is) cause

@@ -4,7 +4,7 @@ use Rattle.std.proofs.lemmas.List.{take_all, length-take-le}
 use Rattle.std.proofs.Math.Seq.{take-add}
 use Rattle.std.specs.Prelude.{⊤}
 use Rattle.std.specs.declared.option.Option.{Option}
-use Rattle.outside.specs.Outside.{OnlyWord, IsWhole, ReadAt, HasLength}
+use Rattle.outside.specs.Outside.{OnlyWord, IsWhole, ReadAt, HasFileLength}
 
 pub OnlyWord-refl : (words : ℕ) (told : ℕ → Option (List ℕ)) (faults : ℕ → ℕ) (word : ℕ) → OnlyWord words words told told faults faults word
 OnlyWord-refl words told faults word = record { same_words = refl; contents = λ k. refl; counts = λ k other. refl }
@@ -30,7 +30,7 @@ IsFront-more (Some whole) front piece n is read fits =
     rw (length-append, size, take-add, is, read.same) refl
 
 -- a front as long as what is told is all of it
-pub IsWhole-front : (told : Option (List ℕ)) (front : List ℕ) (n : ℕ) → IsFront told front → HasLength told n → n ≤ length front → IsWhole told front
+pub IsWhole-front : (told : Option (List ℕ)) (front : List ℕ) (n : ℕ) → IsFront told front → HasFileLength told n → n ≤ length front → IsWhole told front
 IsWhole-front None front n is has long = tt
 IsWhole-front (Some whole) front n is has long = sym is ∙ take_all (length front) whole (omega (arith, has))
 

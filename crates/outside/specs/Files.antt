@@ -2,7 +2,7 @@
 use Rattle.std.specs.Prelude.{◌≡◌, ℕ, ◌+◌, ◌-◌, ◌<◌, ◌≤◌, List, length, slice_index_or, sum_by, [], map, Vec}
 use Rattle.std.specs.declared.option.Option.{Option}
 use Rattle.std.specs.declared.alloc.Global.{Global}
-use Rattle.outside.specs.Outside.{Rose, IsWhole, HasLength}
+use Rattle.outside.specs.Outside.{Rose, IsWhole, HasFileLength}
 use Rattle.outside.specs.declared.operands.FilesFault.{FilesFault}
 use Rattle.outside.specs.declared.operands.FilesFault.TheVariants.{TooBig, ReadFault, NoMemory}
 
@@ -39,7 +39,7 @@ pub record IsTooBigAt (old : FilesTold) (first end operand sum : ℕ) : Type 0 w
   pub before : List (List ℕ)
   pub read : AreFiles old.told first operand before
   pub bytes : ℕ
-  pub length_is : HasLength (old.told operand) bytes
+  pub length_is : HasFileLength (old.told operand) bytes
   pub sum_is : sum ≡ sum_by length before + bytes
   pub past : most_bytes < sum
 
@@ -51,10 +51,10 @@ pub record FailsAt (old new : FilesTold) (first end operand : ℕ) : Type 0 wher
   pub rose : Rose (old.faults operand) (new.faults operand)
 
 -- why the files of the words from one up to another weren't read; no word behind the one that is told was asked for
-abbrev pub IsCause : (old new : FilesTold) → (first end : ℕ) → FilesFault → Type 0
-IsCause old new first end (TooBig operand sum) = IsTooBigAt old first end operand sum × OnlyWords old new first (operand + 1)
-IsCause old new first end (ReadFault operand) = FailsAt old new first end operand × OnlyWords old new first (operand + 1)
-IsCause old new first end NoMemory = OnlyWords old new first end
+abbrev pub IsFilesCause : (old new : FilesTold) → (first end : ℕ) → FilesFault → Type 0
+IsFilesCause old new first end (TooBig operand sum) = IsTooBigAt old first end operand sum × OnlyWords old new first (operand + 1)
+IsFilesCause old new first end (ReadFault operand) = FailsAt old new first end operand × OnlyWords old new first (operand + 1)
+IsFilesCause old new first end NoMemory = OnlyWords old new first end
 
 -- the bytes of each
 abbrev pub contents : List (Vec ℕ Global) → List (List ℕ)
@@ -62,6 +62,6 @@ contents files = map (λ file. file.items) files
 
 -- why the file of a word wasn't read, where so many bytes were left of the most
 abbrev pub FileCause : (old new : FilesTold) → (word left : ℕ) → FilesFault → Type 0
-FileCause old new word left (TooBig operand sum) = (operand ≡ word) × (n : ℕ) × HasLength (old.told word) n × (sum ≡ most_bytes - left + n) × (left < n)
+FileCause old new word left (TooBig operand sum) = (operand ≡ word) × (n : ℕ) × HasFileLength (old.told word) n × (sum ≡ most_bytes - left + n) × (left < n)
 FileCause old new word left (ReadFault operand) = (operand ≡ word) × Rose (old.faults word) (new.faults word)
 FileCause old new word left NoMemory = Unit {0}

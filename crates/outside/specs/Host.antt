@@ -3,7 +3,7 @@ use Rattle.std.specs.Prelude.{◌≡◌, ℕ, List, drop, slice_get, ⊤, None, 
 use Rattle.std.specs.Fs.{IsFile, file_type, metadata_len}
 use Rattle.std.specs.declared.fs.attrs.Metadata.{Metadata}
 use Rattle.std.specs.declared.option.Option.{Option}
-use Rattle.outside.specs.Outside.{HasLength}
+use Rattle.outside.specs.Outside.{HasFileLength}
 use Rattle.outside.specs.Memory.{entry_told}
 
 -- A stream: its bytes, where they are known, and how many calls failed. The bytes of a writer are those that it holds, the bytes of a reader are
@@ -35,4 +35,4 @@ HasTold position all left (Some bytes) file = Has position all left bytes file
 
 -- Where the bytes are told, and the metadata is that of a regular file, it has their number.
 abbrev pub CountsFile : Option (List ℕ) → Metadata → Type 0
-CountsFile told metadata = IsFile (file_type metadata) → HasLength told (metadata_len metadata)
+CountsFile told metadata = IsFile (file_type metadata) → HasFileLength told (metadata_len metadata)

@@ -45,9 +45,9 @@ ReadAt None place n piece = ⊤
 ReadAt (Some bytes) place n piece = IsReadFrom bytes place n piece
 
 -- Where a word's file is told, this is its length.
-abbrev pub HasLength : Option (List ℕ) → ℕ → Type 0
-HasLength None n = ⊤
-HasLength (Some bytes) n = n ≡ length bytes
+abbrev pub HasFileLength : Option (List ℕ) → ℕ → Type 0
+HasFileLength None n = ⊤
+HasFileLength (Some bytes) n = n ≡ length bytes
 
 -- Where a word's file is told, these are all its bytes.
 abbrev pub IsWhole : Option (List ℕ) → List ℕ → Type 0

@@ -3,7 +3,7 @@
 // Files that are named by the words of a command line.
 ghost use Rattle.std.specs.Prelude.{◌≡◌, ◌<◌, ◌≤◌, ℕ, List, length, IfOk, IfErr, IsErrOf};
 ghost use Rattle.std.specs.declared.option.Option.{Option};
-ghost use Rattle.outside.specs.Outside.{HasCause, HasLength, IsWhole, OnlyWord, ReadAt, Rose};
+ghost use Rattle.outside.specs.Outside.{HasCause, HasFileLength, IsWhole, OnlyWord, ReadAt, Rose};
 ghost use Rattle.outside.specs.ReadAll.{IsTooBig};
 
 use crate::Failed;
@@ -30,7 +30,7 @@ pub trait Files {
     /// The length in bytes of a word's file.
     fn length(&mut self, word: u32) -> Result<u64, Failed>
         requires { word < words self.old }
-        ensures told { IfOk result (HasLength (told self.old word)) }
+        ensures told { IfOk result (HasFileLength (told self.old word)) }
         ensures rest { OnlyWord (words self.old) (words self.new) (told self.old) (told self.new)
             (faults self.old) (faults self.new) word }
         ensures cause { HasCause (faults self.old word) (faults self.new word) result };

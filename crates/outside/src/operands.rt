@@ -1,7 +1,7 @@
 //! Files of words one after another, read in their order, with a limit on the sum of their lengths.
 ghost use Rattle.std.specs.Prelude.{◌≡◌, ◌+◌, ◌<◌, ◌≤◌, length, IfOk, IfErr};
 ghost use Rattle.outside.specs.Outside.{IsWhole};
-ghost use Rattle.outside.specs.Files.{files_told, OnlyWords, most_bytes, AreFiles, IsCause, contents, FileCause};
+ghost use Rattle.outside.specs.Files.{files_told, OnlyWords, most_bytes, AreFiles, IsFilesCause, contents, FileCause};
 
 use crate::{Files, LONGEST_FILE, ReadAll, read_all};
 use std::alloc::Global;
@@ -29,7 +29,7 @@ pub fn read_files<F: Files>(
     ensures files { IfOk result (λ read. AreFiles (F.told files.old) first end (contents read.items)) }
     ensures rest { IfOk result (λ read. OnlyWords (files_told (F.words files.old) (F.told files.old) (F.faults files.old))
         (files_told (F.words files.new) (F.told files.new) (F.faults files.new)) first end) }
-    ensures cause { IfErr result (IsCause (files_told (F.words files.old) (F.told files.old) (F.faults files.old))
+    ensures cause { IfErr result (IsFilesCause (files_told (F.words files.old) (F.told files.old) (F.faults files.old))
         (files_told (F.words files.new) (F.told files.new) (F.faults files.new)) first end) }
 {
     let mut read = Vec::new(alloc);

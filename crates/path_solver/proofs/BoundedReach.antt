@@ -5,7 +5,7 @@ use Rattle.std.proofs.lemmas.List.Sums.{sum_by-cons, sum_by-append}
 use Rattle.std.proofs.lemmas.List.Elements.{All-cons, All-nil, All-head, All-tail, All-contains, Contains-append_left, Contains-get_or}
 use Rattle.lists.specs.Members.{at_head, in_tail, cons_cases, nil_contains, has_or_not}
 use Rattle.loop_nest.specs.Digraph.{Digraph}
-use Rattle.loop_nest.specs.Walks.{Walk, Dominates, Takes, back_edges_to}
+use Rattle.loop_nest.specs.Walks.{Walk, Dominates, TakesEdge, back_edges_to}
 use Rattle.loop_nest.specs.Walks.Walk.{stay, along}
 use Rattle.loop_nest.specs.Nest.{NaturalLoop, IsLoopOf, IsNest}
 use Rattle.loop_nest.specs.Laws.{HeaderDominatesMembers}
@@ -44,7 +44,7 @@ count_append : (h : ℕ) (xs ys : List ℕ) → count h (xs ++ ys) ≡ count h x
 count_append h xs ys = sum_by-append (λ (x : ℕ). cond (eqb x h) 1 0) xs ys
 
 -- within a set, h is come to from a node of the set
-taken_within : (h : ℕ) (ms : List ℕ) (y : ℕ) (s : List ℕ) → All (Contains ms) (y ∷ s) → Contains s h → (x : ℕ) × Contains ms x × Takes (y ∷ s) x h
+taken_within : (h : ℕ) (ms : List ℕ) (y : ℕ) (s : List ℕ) → All (Contains ms) (y ∷ s) → Contains s h → (x : ℕ) × Contains ms x × TakesEdge (y ∷ s) x h
 taken_within h ms y [] all has = absurd (nil_contains h has)
 taken_within h ms y (z ∷ zs) all has =
     elim (cons_cases z h zs has) [
@@ -52,11 +52,11 @@ taken_within h ms y (z ∷ zs) all has =
       | inr there ↦ let r = taken_within h ms z zs (All-tail (Contains ms) y (z ∷ zs) all) there in (r.0, r.1, later y r.0 h (z ∷ zs) r.2)
     ]
 
-taken_around : (before ns after : List ℕ) (x h : ℕ) → Takes ns x h → Takes (before ++ ns ++ after) x h
+taken_around : (before ns after : List ℕ) (x h : ℕ) → TakesEdge ns x h → TakesEdge (before ++ ns ++ after) x h
 taken_around before ns after x h k = (before ++ k.0, k.1 ++ after, ap (λ (zs : List ℕ). before ++ zs ++ after) k.2 ∙ simp append_assoc)
 
 -- a walk of two parts takes the edges of the first and of the second
-taken_by_parts : {g : Digraph} {z u : ℕ} {a : List ℕ} → Walk g z u a → (b : List ℕ) (x h : ℕ) (before after : List ℕ) → a ++ b ≡ before ++ x ∷ h ∷ after → Takes a x h ⊎ Takes (u ∷ b) x h
+taken_by_parts : {g : Digraph} {z u : ℕ} {a : List ℕ} → Walk g z u a → (b : List ℕ) (x h : ℕ) (before after : List ℕ) → a ++ b ≡ before ++ x ∷ h ∷ after → TakesEdge a x h ⊎ TakesEdge (u ∷ b) x h
 taken_by_parts (stay {u}) b x h before after is = inr (before, after, is)
 taken_by_parts (along {u = z} {v} {w} {ns} e t) b x h [] after is =
     let r = begins t in
@@ -126,11 +126,11 @@ module _ (g : Digraph) (l : BoundedLoop) (o : IsOwn g l) where
       let P : List ℕ → Type 0 = λ zs. VisitsOnce zs in
       not_in_both (before ++ y ∷ []) c h (subst P (is ∙ parted before y c) once) (came x a before y c w is inside) has
 
-  not_taken : (x : ℕ) (a : List ℕ) → Walk g 0 x a → VisitsOnce a → (y : ℕ) → Contains l.members y → Takes a y h → ⊥
+  not_taken : (x : ℕ) (a : List ℕ) → Walk g 0 x a → VisitsOnce a → (y : ℕ) → Contains l.members y → TakesEdge a y h → ⊥
   not_taken x a w once y inside k = never_again x a k.0 y (h ∷ k.1) w once k.2 inside (at_head h k.1)
 
   -- a bound of 0 forbids each edge back
-  forbidden : (ns : List ℕ) → l.bound ≡ 0 → IsKept ns l → (y : ℕ) → Contains l.members y → Takes ns y h → ⊥
+  forbidden : (ns : List ℕ) → l.bound ≡ 0 → IsKept ns l → (y : ℕ) → Contains l.members y → TakesEdge ns y h → ⊥
   forbidden ns none kept y inside k =
       let all = All-cons (Contains l.members) y (h ∷ []) inside (All-cons (Contains l.members) h [] o.own (All-nil (Contains l.members))) in
       let f : ℕ → ℕ = λ x. cond (eqb x h) 1 0 in
@@ -141,7 +141,7 @@ module _ (g : Digraph) (l : BoundedLoop) (o : IsOwn g l) where
       absurd (omega arith)
 
   -- the first part, from node 0, and the second, from u on, visit no node twice
-  module _ (u exit : ℕ) (a b ns : List ℕ) (first : Walk g 0 u a) (first_once : VisitsOnce a) (second_once : VisitsOnce (u ∷ b)) (part : (x y : ℕ) → Takes (u ∷ b) x y → Takes ns x y) (kept : l.bound ≡ 0 → IsKept ns l) where
+  module _ (u exit : ℕ) (a b ns : List ℕ) (first : Walk g 0 u a) (first_once : VisitsOnce a) (second_once : VisitsOnce (u ∷ b)) (part : (x y : ℕ) → TakesEdge (u ∷ b) x y → TakesEdge ns x y) (kept : l.bound ≡ 0 → IsKept ns l) where
     few : (before : List ℕ) (y : ℕ) (s after : List ℕ) → a ++ b ≡ before ++ y ∷ (s ++ after) → Contains l.members y → count h s ≤ 1
     few before y s after is inside =
         let once = count_once h b second_once.1 in
@@ -211,7 +211,7 @@ lies_on_bounded_walk law g nest bounds loads h u reached out =
     let P : List ℕ → Type 0 = λ zs. Walk g u out.exit zs in
     let Q : List ℕ → Type 0 = λ zs. VisitsOnce zs in
     let once = subst Q b.1 t.once in
-    let part : (x y : ℕ) → Takes (u ∷ b.0) x y → Takes out.nodes x y = λ x y k. t.part x y (k.0, k.1, b.1 ∙ k.2) in (
+    let part : (x y : ℕ) → TakesEdge (u ∷ b.0) x y → TakesEdge out.nodes x y = λ x y k. t.part x y (k.0, k.1, b.1 ∙ k.2) in (
       s.nodes ++ b.0,
       record {
         last = out.exit;

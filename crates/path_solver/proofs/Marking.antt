@@ -7,7 +7,7 @@ use Rattle.loop_nest.specs.Digraph.{Digraph}
 use Rattle.loop_nest.specs.Nest.{NaturalLoop}
 use Rattle.section_check.specs.Section.{Certified, CertifiedLoop, IsInForm, HeadersRise, MembersRise}
 use Rattle.section_check.specs.Placing.{IsEntryAt}
-use Rattle.section_check.specs.Conditions.{Answers}
+use Rattle.section_check.specs.Conditions.{IsSectionAnswer}
 use Rattle.section_check.specs.Regions.{marked, with_regions, AreRegions, MarkedStaysAccepted}
 use Rattle.section_check.proofs.Marking.{marked-long}
 use Rattle.path_solver.specs.Longest.{AreLoopsOf}
@@ -114,8 +114,8 @@ are_regions nest ls loads rs h long apart = record {
       subst P b.1 (inside x (subst P (sym a.1) has)));
 }
 
-pub marked_shown : (g : Digraph) (nest : List NaturalLoop) (costs bounds loads : List ℕ) (rs : List Bool) (c : Certified) (value : ℕ) → MarkedStaysAccepted → AreLoopsOf nest c.loops → length rs ≡ length nest → Answers g costs c bounds (map Some loads) (Ok (Some value))
-    → AreRegionsApart nest rs → Answers g costs (with_regions c rs) bounds (map Some loads) (Ok (Some value))
+pub marked_shown : (g : Digraph) (nest : List NaturalLoop) (costs bounds loads : List ℕ) (rs : List Bool) (c : Certified) (value : ℕ) → MarkedStaysAccepted → AreLoopsOf nest c.loops → length rs ≡ length nest → IsSectionAnswer g costs c bounds (map Some loads) (Ok (Some value))
+    → AreRegionsApart nest rs → IsSectionAnswer g costs (with_regions c rs) bounds (map Some loads) (Ok (Some value))
 marked_shown g nest costs bounds loads rs c value law h long shown apart =
     let r = law g costs c bounds (map Some loads) rs (are_regions nest c.loops loads rs h long apart) shown.0 in
     (r.0, shown.1 ∙ sym r.1)

@@ -2,7 +2,7 @@
 use Rattle.std.proofs.Common.{◌≡◌, ℕ, ◌⊎◌, List, [], ◌∷◌, ◌++◌, Contains, sym, ap, ◌∙◌, subst, inl, inr}
 use Rattle.lists.specs.Members.{cons_cases, nil_contains, has_or_not}
 use Rattle.loop_nest.specs.Digraph.{Digraph}
-use Rattle.loop_nest.specs.Walks.{Walk, Takes}
+use Rattle.loop_nest.specs.Walks.{Walk, TakesEdge}
 use Rattle.loop_nest.specs.Walks.Walk.{stay, along}
 use Rattle.loop_nest.proofs.SimpleWalks.{VisitsOnce, begins}
 
@@ -10,9 +10,9 @@ pub record SimplePart (g : Digraph) (u x : ℕ) (ns : List ℕ) : Type 0 where
   pub nodes : List ℕ
   pub walk : Walk g u x nodes
   pub once : VisitsOnce nodes
-  pub part : (a b : ℕ) → Takes nodes a b → Takes ns a b
+  pub part : (a b : ℕ) → TakesEdge nodes a b → TakesEdge ns a b
 
-pub later : (u a b : ℕ) (ns : List ℕ) → Takes ns a b → Takes (u ∷ ns) a b
+pub later : (u a b : ℕ) (ns : List ℕ) → TakesEdge ns a b → TakesEdge (u ∷ ns) a b
 later u a b ns k = (u ∷ k.0, k.1, ap (λ (zs : List ℕ). u ∷ zs) k.2)
 
 -- the part that begins with a node of the walk
@@ -31,11 +31,11 @@ cut {g} u (along {u = v} {v = w} {w = x} {ns} e t) once has =
     ]
 
 -- an edge that is taken first, or later
-first_or_later : (u a b : ℕ) (ns before after : List ℕ) → u ∷ ns ≡ before ++ a ∷ b ∷ after → ((a ≡ u) × (ns ≡ b ∷ after)) ⊎ Takes ns a b
+first_or_later : (u a b : ℕ) (ns before after : List ℕ) → u ∷ ns ≡ before ++ a ∷ b ∷ after → ((a ≡ u) × (ns ≡ b ∷ after)) ⊎ TakesEdge ns a b
 first_or_later u a b ns [] after is = inl (cc, cc)
 first_or_later u a b ns (p ∷ ps) after is = inr (ps, after, cc)
 
-longer_part : (u a b v : ℕ) (ns ms r s : List ℕ) → ns ≡ v ∷ r → ms ≡ v ∷ s → ((x y : ℕ) → Takes ms x y → Takes ns x y) → Takes (u ∷ ms) a b → Takes (u ∷ ns) a b
+longer_part : (u a b v : ℕ) (ns ms r s : List ℕ) → ns ≡ v ∷ r → ms ≡ v ∷ s → ((x y : ℕ) → TakesEdge ms x y → TakesEdge ns x y) → TakesEdge (u ∷ ms) a b → TakesEdge (u ∷ ns) a b
 longer_part u a b v ns ms r s head_ns head_ms part k =
     elim (first_or_later u a b ms k.0 k.1 k.2) [
       | inl at ↦

@@ -18,7 +18,7 @@ use Rattle.loop_nest.proofs.Ends.{ends_within}
 use Rattle.section_check.specs.Bounded.{BoundedLoop, holds, cost_of, IsBoundedWalk, IsGreatest}
 use Rattle.section_check.specs.Section.{Certified, CertifiedLoop, priced, IsInForm, IsPotential, ArePotentials, start_value, potential, listed}
 use Rattle.section_check.specs.Placing.{IsEntryAt}
-use Rattle.section_check.specs.Conditions.{IsAccepted, Answers, natural_of, value_of}
+use Rattle.section_check.specs.Conditions.{IsAccepted, IsSectionAnswer, natural_of, value_of}
 use Rattle.section_check.proofs.Rising.{listed_at, listed_long, potential_at}
 use Rattle.path_solver.specs.declared.pass.Pass.{Pass}
 use Rattle.path_solver.specs.declared.topology.TopologicalOrder.{TopologicalOrder}
@@ -134,7 +134,7 @@ pub record IsFound (g : Digraph) (loops : List NaturalLoop) (costs bounds loads 
   pub greatest : IsGreatest g costs (bounded_loops loops bounds loads) value
   pub own_loops : AreLoopsOf loops section.loops
   pub form : IsInForm section bounds (map Some loads)
-  pub shown : Answers g costs section bounds (map Some loads) (Ok (Some value))
+  pub shown : IsSectionAnswer g costs section bounds (map Some loads) (Ok (Some value))
   pub fits : WalksAreTooLarge g costs (bounded_loops loops bounds loads) → ⊥
 
 module _ (g : Digraph) (loops : List NaturalLoop) (costs bounds loads : List ℕ) (flags : List Bool) (iteration_costs dist : List ℕ) (value : ℕ) (exceed : Bool) (s : IsPass g loops costs bounds loads flags iteration_costs dist value exceed) where
@@ -320,9 +320,9 @@ module _ (g : Digraph) (loops : List NaturalLoop) (costs bounds loads : List ℕ
     abbrev own_section : Certified
     own_section = record { nodes = nodes; loops = certified loops iteration_costs }
 
-    shown : Answers g costs own_section bounds (map Some loads) (Ok (Some value))
+    shown : IsSectionAnswer g costs own_section bounds (map Some loads) (Ok (Some value))
     shown =
-        let P : List ℕ → Type 0 = λ ws. Answers g costs (record { nodes = nodes; loops = certified loops ws }) bounds (map Some loads) (Ok (Some value)) in
+        let P : List ℕ → Type 0 = λ ws. IsSectionAnswer g costs (record { nodes = nodes; loops = certified loops ws }) bounds (map Some loads) (Ok (Some value)) in
         subst P exact_costs_are (accepted small nodes exactly_left listed_within, sym (value_shown small nodes exactly_left listed_within))
 
     potentials : ArePotentials nodes

@@ -45,6 +45,6 @@ pub data WalksAreTooLarge (g : Digraph) (costs : List ℕ) (loops : List Bounded
   iterations : IterationsExceed g costs loops → WalksAreTooLarge g costs loops
 
 -- a number is too large; of want of memory nothing is said
-abbrev pub HasCause : Digraph → List ℕ → List BoundedLoop → SolveFault → Type 0
-HasCause g costs loops TooLarge = WalksAreTooLarge g costs loops
-HasCause g costs loops NoMemory = Unit {0}
+abbrev pub HasSolveCause : Digraph → List ℕ → List BoundedLoop → SolveFault → Type 0
+HasSolveCause g costs loops TooLarge = WalksAreTooLarge g costs loops
+HasSolveCause g costs loops NoMemory = Unit {0}

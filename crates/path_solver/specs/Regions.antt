@@ -3,7 +3,7 @@ use Rattle.std.specs.Prelude.{◌≡◌, ◌≢◌, ℕ, Bool, if◌then◌else�
 use Rattle.loop_nest.specs.Nest.{NaturalLoop}
 use Rattle.section_check.specs.Section.{CertifiedLoop}
 use Rattle.section_check.specs.Placing.{IsEntryAt}
-use Rattle.section_check.specs.Regions.{IsRegion}
+use Rattle.section_check.specs.Regions.{IsRegionLoop}
 
 -- what an entry of each loop is charged: its load where it is a region, and else nothing
 abbrev pub charged : List ℕ → List Bool → List ℕ
@@ -14,7 +14,7 @@ charged (load ∷ loads) (region ∷ regions) = (if region then load else 0) ∷
 -- no region lies in another
 abbrev pub AreRegionsApart : List NaturalLoop → List Bool → Type 0
 AreRegionsApart nest regions =
-    (i k : ℕ) (l m : NaturalLoop) → IsEntryAt nest i l → IsEntryAt nest k m → k ≢ i → IsRegion regions i → IsRegion regions k
+    (i k : ℕ) (l m : NaturalLoop) → IsEntryAt nest i l → IsEntryAt nest k m → k ≢ i → IsRegionLoop regions i → IsRegionLoop regions k
     → ¬ ((x : ℕ) → Contains l.members x → Contains m.members x)
 
 -- the loops of a section are those of a nest, in its order, marked as these say

@@ -6,12 +6,12 @@ ghost use Rattle.loop_nest.specs.Reduction.{IsReducible};
 ghost use Rattle.loop_nest.specs.Nest.{IsNest};
 ghost use Rattle.section_check.specs.Bounded.{IsBoundedWalk, IsGreatest};
 ghost use Rattle.path_solver.specs.Reaching.{ReachesExit};
-ghost use Rattle.path_solver.specs.Longest.{bounded_loops, AreLoopsOf, WalkExceeds, IterationsExceed, WalksAreTooLarge, HasCause};
+ghost use Rattle.path_solver.specs.Longest.{bounded_loops, AreLoopsOf, WalkExceeds, IterationsExceed, WalksAreTooLarge, HasSolveCause};
 ghost use Rattle.path_solver.specs.Distances.{AreLimited};
 ghost use Rattle.path_solver.specs.Certifying.{certified};
 ghost use Rattle.path_solver.specs.Potentials.{AreLeft};
 ghost use Rattle.section_check.specs.Section.{IsInForm};
-ghost use Rattle.section_check.specs.Conditions.{Answers};
+ghost use Rattle.section_check.specs.Conditions.{IsSectionAnswer};
 
 mod certifying;
 mod distances;
@@ -88,8 +88,8 @@ pub fn longest(
     ensures loops { IfOk result (λ o. IfSome o (λ s. AreLoopsOf nest.now s.section.loops)) }
     ensures form { IfOk result (λ o. IfSome o (λ s. IsInForm s.section bounds.now (map Some loads.now))) }
     ensures shown { let fitting : List (Option ℕ) = map Some loads.now in
-        IfOk result (λ o. IfSome o (λ s. Answers g.now costs.now s.section bounds.now fitting (Ok (Some s.value)))) }
-    ensures cause { IfErr result (HasCause g.now costs.now (bounded_loops nest.now bounds.now loads.now)) }
+        IfOk result (λ o. IfSome o (λ s. IsSectionAnswer g.now costs.now s.section bounds.now fitting (Ok (Some s.value)))) }
+    ensures cause { IfErr result (HasSolveCause g.now costs.now (bounded_loops nest.now bounds.now loads.now)) }
     ensures fits { IfOk result (λ _. ¬ WalksAreTooLarge g.now costs.now (bounded_loops nest.now bounds.now loads.now)) }
 {
     let Some(found) = one_pass(alloc, g, nest, costs, bounds, loads)? else {

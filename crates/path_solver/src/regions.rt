@@ -4,9 +4,9 @@ ghost use Rattle.loop_nest.specs.Reduction.{IsReducible};
 ghost use Rattle.loop_nest.specs.Nest.{IsNest};
 ghost use Rattle.section_check.specs.Bounded.{IsGreatest};
 ghost use Rattle.section_check.specs.Section.{IsInForm};
-ghost use Rattle.section_check.specs.Conditions.{Answers};
+ghost use Rattle.section_check.specs.Conditions.{IsSectionAnswer};
 ghost use Rattle.path_solver.specs.Reaching.{ReachesExit};
-ghost use Rattle.path_solver.specs.Longest.{bounded_loops, WalksAreTooLarge, HasCause};
+ghost use Rattle.path_solver.specs.Longest.{bounded_loops, WalksAreTooLarge, HasSolveCause};
 ghost use Rattle.path_solver.specs.Regions.{charged, AreRegionsApart, AreMarkedLoopsOf};
 
 use super::longest;
@@ -65,8 +65,9 @@ pub fn longest_with_regions(
     ensures form { let fitting : List (Option ℕ) = map Some (charged loads.now regions.now) in
         IfOk result (λ o. IfSome o (λ s. IsInForm s.section bounds.now fitting)) }
     ensures shown { let fitting : List (Option ℕ) = map Some (charged loads.now regions.now) in
-        IfOk result (λ o. IfSome o (λ s. AreRegionsApart nest.now regions.now → Answers g.now costs.now s.section bounds.now fitting (Ok (Some s.value)))) }
-    ensures cause { IfErr result (HasCause g.now costs.now (bounded_loops nest.now bounds.now (charged loads.now regions.now))) }
+        IfOk result (λ o. IfSome o (λ s. AreRegionsApart nest.now regions.now
+        → IsSectionAnswer g.now costs.now s.section bounds.now fitting (Ok (Some s.value)))) }
+    ensures cause { IfErr result (HasSolveCause g.now costs.now (bounded_loops nest.now bounds.now (charged loads.now regions.now))) }
     ensures fits { IfOk result (λ _. ¬ WalksAreTooLarge g.now costs.now (bounded_loops nest.now bounds.now (charged loads.now regions.now))) }
 {
     // The law is for the proof.

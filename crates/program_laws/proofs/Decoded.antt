@@ -9,7 +9,7 @@ use Rattle.opcodes.specs.declared.instruction.Instr.{Instr}
 use Rattle.opcodes.specs.declared.instruction.DecodeFault.{DecodeFault}
 use Rattle.opcodes.specs.declared.instruction.DecodeFault.TheVariants.{Short}
 use Rattle.opcodes.specs.Bytes.{u1, u2, u4}
-use Rattle.opcodes.specs.Form.{Operand, Absent, UnsignedByte, UnsignedShort, SignedByte, SignedShort, Offset, WideOffset, Form, NotAnOpcode, Fixed, Widened, TableSwitch, LookupSwitch, Wide}
+use Rattle.opcodes.specs.Form.{FixedOperand, Absent, UnsignedByte, UnsignedShort, SignedByte, SignedShort, Offset, WideOffset, Form, NotAnOpcode, Fixed, Widened, TableSwitch, LookupSwitch, Wide}
 use Rattle.opcodes.specs.Instruction.{value_at, widened_at, spelled_at, within, decoded}
 use Rattle.opcodes.specs.Row.{row_of}
 
@@ -27,7 +27,7 @@ half_at code place a = let x = byte_at code place a in let y = byte_at code (pla
 word_at : (code : List ℕ) (place : ℕ) → AreBytes code → u4 code place < 2 ^ 32
 word_at code place a = let x = half_at code place a in let y = half_at code (place + 2) a in omega (arith, x, y)
 
-value_fits : (code : List ℕ) (place : ℕ) → AreBytes code → (o : Operand) → FitsSigned w32 (value_at code place o)
+value_fits : (code : List ℕ) (place : ℕ) → AreBytes code → (o : FixedOperand) → FitsSigned w32 (value_at code place o)
 value_fits code place a Absent = fits_signed_from_abs w32 (pos 0) (omega arith)
 value_fits code place a UnsignedByte = let x = byte_at code place a in fits_signed_from_abs w32 (pos (u1 code place)) (omega (arith, x))
 value_fits code place a UnsignedShort = let x = half_at code place a in fits_signed_from_abs w32 (pos (u2 code place)) (omega (arith, x))

@@ -8,7 +8,7 @@ use Rattle.std.proofs.lemmas.Option.{slice_get-map, slice_get_within}
 use Rattle.class_pool.specs.declared.entry.Entry.{Entry}
 use Rattle.class_pool.specs.declared.entry.Entry.TheVariants as entries
 use Rattle.class_pool.specs.Grammar.{class_name_of, text_at}
-use Rattle.class_pool.specs.Spelling.{IsInRange}
+use Rattle.class_pool.specs.Spelling.{IsEntryInRange}
 use Rattle.class_pool.specs.declared.class.Member.{Member}
 use Rattle.class_pool.specs.declared.class.ClassFile.{ClassFile}
 use Rattle.descriptors.specs.declared.descriptor.Element.TheVariants as elements
@@ -53,7 +53,7 @@ use Rattle.program_laws.proofs.Table.{CallFits, NewFits, OperandFits}
 -- a constant is in range, and invokevirtual (182) names no method as one of an interface
 abbrev pub Ranged : (op : ℕ) → Option Named → Type 0
 Ranged op None = Unit {0}
-Ranged op (Some (Constant e)) = IsInRange e
+Ranged op (Some (Constant e)) = IsEntryInRange e
 Ranged op (Some (Class index)) = Unit {0}
 Ranged op (Some (Field index s)) = Unit {0}
 Ranged op (Some (MethodNamed of_interface index s)) = of_interface ≡ true → op ≡ 182 → ⊥
@@ -81,12 +81,12 @@ interface_ranged : (major op owner : ℕ) (s : Option Signature) → takes_inter
 interface_ranged major op owner None h = tt
 interface_ranged major op owner (Some s) h = λ e f. no_virtual major (subst (λ x. takes_interface_method major x ≡ true) f h)
 
-class_ranged : (op index name : ℕ) → IsInRange (entries.Class name) → (b c : Bool) → Ranged op (if b then Some (Constant (entries.Class name)) else if c then Some (Class index) else None)
+class_ranged : (op index name : ℕ) → IsEntryInRange (entries.Class name) → (b c : Bool) → Ranged op (if b then Some (Constant (entries.Class name)) else if c then Some (Class index) else None)
 class_ranged op index name h true c = h
 class_ranged op index name h false true = tt
 class_ranged op index name h false false = tt
 
-pub named_ranged : (pool : List Entry) (major op index : ℕ) (e : Entry) → IsInRange e → Ranged op (named_by pool major op index e)
+pub named_ranged : (pool : List Entry) (major op index : ℕ) (e : Entry) → IsEntryInRange e → Ranged op (named_by pool major op index e)
 named_ranged pool major op index (entries.Utf8 units) h = tt
 named_ranged pool major op index (entries.Integer n) h = when op (is_ldc op) (Some (Constant (entries.Integer n))) (λ e. h)
 named_ranged pool major op index (entries.Float n) h = when op (is_ldc op) (Some (Constant (entries.Float n))) (λ e. h)
@@ -123,7 +123,7 @@ text_operand cs r m op units =
     map_or_fits (resolved cs) m op (λ n. AString (string_object n)) (string_number cs units) (λ n h.
     let f = index_found (same_text units) (strings_of cs) n h in string_there cs r n f.0 f.1)
 
-constant_operand_fits : (cs : List ClassFile) → IsResolved cs → (m : Method) (op : ℕ) (pool : List Entry) (e : Entry) → IsInRange e → OperandFits (resolved cs) m op (constant_operand cs pool e)
+constant_operand_fits : (cs : List ClassFile) → IsResolved cs → (m : Method) (op : ℕ) (pool : List Entry) (e : Entry) → IsEntryInRange e → OperandFits (resolved cs) m op (constant_operand cs pool e)
 constant_operand_fits cs r m op pool (entries.Utf8 units) h = tt
 constant_operand_fits cs r m op pool (entries.Integer n) h = int_fits n h
 constant_operand_fits cs r m op pool (entries.Float n) h = tt

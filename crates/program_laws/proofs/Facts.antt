@@ -11,7 +11,8 @@ use Rattle.class_rules.specs.Flags.{IsSet}
 use Rattle.class_rules.specs.Rules.{AreSame, AreNamedOnce}
 use Rattle.class_rules.specs.Grammar.{IsClass}
 use Rattle.lists.proofs.Lemmas.{none≢some, some_same}
-use Rattle.class_lookup.specs.Parts.{has, is_interface_class, is_abstract_class}
+use Rattle.class_lookup.specs.Parts.{is_interface_class, is_abstract_class}
+use Rattle.class_pool.specs.Grammar.{has}
 use Rattle.class_lookup.specs.Hierarchy.{is_interface, is_concrete, is_on_a_cycle}
 use Rattle.class_lookup.specs.Laws as lookups
 use Rattle.program_tables.specs.Placed.{lacks_superclass, has_bad_superclass, has_bad_superinterface, is_bad_interface, has_overridden_final}

@@ -10,7 +10,7 @@ use Rattle.std.proofs.lemmas.Option.{slice_get-map, slice_get_within}
 use Rattle.class_pool.specs.declared.entry.Entry.{Entry}
 use Rattle.class_pool.specs.declared.entry.Entry.TheVariants as entries
 use Rattle.class_pool.specs.Grammar.{IsPool, entry_at, utf8_of, text_at}
-use Rattle.class_pool.specs.Spelling.{IsInRange}
+use Rattle.class_pool.specs.Spelling.{IsEntryInRange}
 use Rattle.class_pool.specs.Utf8.{utf8_bytes, unit_bytes, is_single, two_bytes, three_bytes, AreUnits}
 use Rattle.class_pool.specs.declared.class.ClassFile.{ClassFile}
 use Rattle.class_rules.specs.Grammar.{IsClass}
@@ -110,7 +110,7 @@ bytes_long (u ∷ units) =
 empty : IsShort []
 empty = record { few = omega arith; units = tt }
 
-short_entry : (o : Option Entry) → IfSome o IsInRange → IsShort (unwrap_or (utf8_of o) [])
+short_entry : (o : Option Entry) → IfSome o IsEntryInRange → IsShort (unwrap_or (utf8_of o) [])
 short_entry None h = empty
 short_entry (Some (entries.Utf8 units)) h = let long = bytes_long units in let few = h.1 in record { few = omega (arith, long, few); units = h.0 }
 short_entry (Some (entries.Integer n)) h = empty
@@ -128,12 +128,12 @@ short_entry (Some (entries.MethodType n)) h = empty
 short_entry (Some (entries.Dynamic n m)) h = empty
 short_entry (Some entries.Second) h = empty
 
-range_at : (pool : List Entry) (i : ℕ) → AllByRecursion IsInRange pool → IfSome (slice_get pool i) IsInRange
+range_at : (pool : List Entry) (i : ℕ) → AllByRecursion IsEntryInRange pool → IfSome (slice_get pool i) IsEntryInRange
 range_at [] i h = tt
 range_at (e ∷ pool) zero h = h.0
 range_at (e ∷ pool) (suc i) h = range_at pool i h.1
 
-pub in_range : (pool : List Entry) (index : ℕ) → AllByRecursion IsInRange pool → IfSome (entry_at pool index) IsInRange
+pub in_range : (pool : List Entry) (index : ℕ) → AllByRecursion IsEntryInRange pool → IfSome (entry_at pool index) IsEntryInRange
 in_range pool zero h = tt
 in_range pool (suc place) h = range_at pool place h
 

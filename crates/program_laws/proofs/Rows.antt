@@ -12,7 +12,7 @@ use Rattle.class_pool.specs.Found.{code_of}
 use Rattle.class_pool.specs.declared.class.Code.{Code}
 use Rattle.class_pool.specs.declared.class.Member.{Member}
 use Rattle.class_pool.specs.declared.class.ClassFile.{ClassFile}
-use Rattle.class_pool.specs.Spelling.{IsInRange}
+use Rattle.class_pool.specs.Spelling.{IsEntryInRange}
 use Rattle.class_rules.specs.Grammar.{IsClass}
 use Rattle.class_rules.specs.Found.{MethodsHaveCode, FieldsHaveConstants}
 use Rattle.opcodes.specs.declared.instruction.Instr.{Instr}
@@ -251,7 +251,7 @@ operand_is cs n p c m k pc i hn h e hk d =
     ∙ (ap (λ o. option_map_or (λ c. option_map_or (λ q. operand_in cs p.0 c q.instr) (onto (onto (method_at cs p) code_of) (λ k. placed_at k.code pc)) NoOperand) o NoOperand) h
     ∙ ap (λ o. option_map_or (λ q. operand_in cs p.0 c q.instr) o NoOperand) instr)
 
-entry_ranged : (c : ClassFile) (i : Instr) (o : Option Entry) → IfSome o IsInRange → Ranged i.op (onto o (named_by c.pool c.major i.op (index_of_entry i)))
+entry_ranged : (c : ClassFile) (i : Instr) (o : Option Entry) → IfSome o IsEntryInRange → Ranged i.op (onto o (named_by c.pool c.major i.op (index_of_entry i)))
 entry_ranged c i None h = tt
 entry_ranged c i (Some e) h = named_ranged c.pool c.major i.op (index_of_entry i) e h
 

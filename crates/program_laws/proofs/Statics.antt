@@ -9,7 +9,7 @@ use Rattle.std.proofs.lemmas.Bool.{or_right}
 use Rattle.class_pool.specs.declared.entry.Entry.{Entry}
 use Rattle.class_pool.specs.declared.entry.Entry.TheVariants as entries
 use Rattle.class_pool.specs.Grammar.{entry_at, text_at}
-use Rattle.class_pool.specs.Spelling.{IsInRange}
+use Rattle.class_pool.specs.Spelling.{IsEntryInRange}
 use Rattle.class_pool.specs.Found.{constant_value_of}
 use Rattle.class_pool.specs.declared.class.Member.{Member}
 use Rattle.class_pool.specs.declared.class.ClassFile.{ClassFile}
@@ -80,19 +80,19 @@ pub long_fits : (n : ℕ) → n < 2 ^ 64 → FitsSigned w64 (cast_signed w64 n)
 long_fits n lt = sfits_to_z {w = w64} {n = n} (record { fits = lt })
 
 abbrev IsConstantFor : List ClassFile → List Entry → Declared → Entry → Type 0
-IsConstantFor cs pool d e = (v : Value) → IsInRange e → constant_of cs pool e ≡ Some v → HasDeclared (resolved cs) (ks_of cs) d v
+IsConstantFor cs pool d e = (v : Value) → IsEntryInRange e → constant_of cs pool e ≡ Some v → HasDeclared (resolved cs) (ks_of cs) d v
 
 int_for : (cs : List ClassFile) (pool : List Entry) (d : Declared) (e : Entry) (n : ℕ) → Some (Numeric IntType) ≡ Some d → Some e ≡ Some (entries.Integer n) → IsConstantFor cs pool d e
 int_for cs pool d e n h i v lt k =
     let same = some_same e (entries.Integer n) i in
-    let low : n < 2 ^ 32 = subst IsInRange same lt in
+    let low : n < 2 ^ 32 = subst IsEntryInRange same lt in
     let value = some_same (Int (cast_signed w32 n)) v (ap (constant_of cs pool) (sym same) ∙ k) in
     subst (λ x. HasDeclared (resolved cs) (ks_of cs) x v) (some_same (Numeric IntType) d h) (subst (HasDeclared (resolved cs) (ks_of cs) (Numeric IntType)) value (int_fits n low))
 
 long_for : (cs : List ClassFile) (pool : List Entry) (d : Declared) (e : Entry) (n : ℕ) → Some (Numeric LongType) ≡ Some d → Some e ≡ Some (entries.Long n) → IsConstantFor cs pool d e
 long_for cs pool d e n h i v lt k =
     let same = some_same e (entries.Long n) i in
-    let low : n < 2 ^ 64 = subst IsInRange same lt in
+    let low : n < 2 ^ 64 = subst IsEntryInRange same lt in
     let value = some_same (Long (cast_signed w64 n)) v (ap (constant_of cs pool) (sym same) ∙ k) in
     subst (λ x. HasDeclared (resolved cs) (ks_of cs) x v) (some_same (Numeric LongType) d h) (subst (HasDeclared (resolved cs) (ks_of cs) (Numeric LongType)) value (long_fits n low))
 
@@ -128,8 +128,8 @@ constant_fits order cs r pool d e (elements.Class name) h i = string_for order c
 abbrev pub ReadFields : Type 0
 ReadFields = (units : List ℕ) (t : FieldType) → (field_in units ≡ Some t) ↔ IsFieldDescriptor units t
 
-pub range_of : (o : Option Entry) (e : Entry) → IfSome o IsInRange → o ≡ Some e → IsInRange e
-range_of o e h s = subst (λ x. IfSome x IsInRange) s h
+pub range_of : (o : Option Entry) (e : Entry) → IfSome o IsEntryInRange → o ≡ Some e → IsEntryInRange e
+range_of o e h s = subst (λ x. IfSome x IsEntryInRange) s h
 
 constant_value_fits : OrderLaws → FieldsHaveConstants → ReadFields → (cs : List ClassFile) → IsResolved cs → (f : Place) (d : Declared) (v : Value) → is_static_field cs f ≡ true → declared_at cs f ≡ Some d → constant_at cs f ≡ Some v → HasDeclared (resolved cs) (ks_of cs) d v
 constant_value_fits order law read cs r f d v static h k =

@@ -14,7 +14,7 @@ use Rattle.class_rules.specs.Grammar.{IsClass}
 use Rattle.class_rules.specs.Rules.{IsRightMethod, IsRightCode}
 use Rattle.class_lookup.specs.Parts.{same_text, name_of}
 use Rattle.class_lookup.specs.Hierarchy.{is_on_a_cycle, IsAcyclic}
-use Rattle.program_tables.specs.Tables.{HasBounds}
+use Rattle.program_tables.specs.Tables.{HasFileLimits}
 use Rattle.program_tables.specs.Resolving.{HasBytes}
 use Rattle.resolved_program.specs.Resolved.{AreResolved}
 use Rattle.core_classes.specs.Core.{core, boot}
@@ -121,7 +121,7 @@ code_case : (k : ClassFile) (o : Option Code) → ((code : Code) → o ≡ Some 
 code_case k None h = tt
 code_case k (Some c) h = let right = h c refl in omega (arith, right.not_long)
 
-class_bounds : MethodsHaveCode → (k : ClassFile) → IsClass k → HasBounds k
+class_bounds : MethodsHaveCode → (k : ClassFile) → IsClass k → HasFileLimits k
 class_bounds law k is = record {
   pool = omega (arith, is.pool.count);
   code = all_along (IsRightMethod k) (λ m. IfSome (code_of m) (λ c. length c.code ≤ 33554432)) (λ m right. code_case k (code_of m) (law k m right).0) k.methods is.rules.methods;
@@ -241,7 +241,7 @@ module _ (laws : Laws) (have : MethodsHaveCode) (ks : List ClassFile) (grammar :
   full_to_link = record {
     there = long;
     grammar = subst (AllByRecursion IsClass) (sym files_are) grammar;
-    bounds = subst (AllByRecursion HasBounds) (sym files_are) (all_along IsClass HasBounds (class_bounds have) ks grammar);
+    bounds = subst (AllByRecursion HasFileLimits) (sym files_are) (all_along IsClass HasFileLimits (class_bounds have) ks grammar);
     core = λ free. off_core (subst (λ (xs : List ClassFile). causes_in full Names xs ≡ []) files_are free);
     off = λ free well.
         none_on_cycle laws ks grammar (calls_of ks) (main_name ks main) few (subst (λ (xs : List ClassFile). causes_in full Names xs ≡ []) files_are free)

@@ -12,7 +12,7 @@ use Rattle.class_pool.specs.declared.entry.Entry.{Entry}
 use Rattle.class_pool.specs.declared.entry.Entry.TheVariants as entries
 use Rattle.class_pool.specs.declared.class.Member.{Member}
 use Rattle.class_pool.specs.declared.class.ClassFile.{ClassFile}
-use Rattle.class_pool.specs.Spelling.{IsInRange}
+use Rattle.class_pool.specs.Spelling.{IsEntryInRange}
 use Rattle.class_pool.specs.Grammar.{entry_at, utf8_of, class_name_of, text_at}
 use Rattle.class_rules.specs.Grammar.{IsClass}
 use Rattle.class_rules.specs.Rules.{IsClassName, AreSame, AreNamedOnce}
@@ -28,15 +28,15 @@ use Rattle.program_resolution.proofs.FileLemmas.{all_at}
 
 -- ---- names
 
-by_entry : (units : List ℕ) (e : Entry) → IsInRange e → utf8_of (Some e) ≡ Some units → IsPoolText units
+by_entry : (units : List ℕ) (e : Entry) → IsEntryInRange e → utf8_of (Some e) ≡ Some units → IsPoolText units
 by_entry units (entries.Utf8 u) r h = let same : u ≡ units = cc in subst IsPoolText same r
 by_entry units e r h = absurd (let f : None ≡ Some units = h in cc)
 
-by_place : (pool : List Entry) (units : List ℕ) (place : ℕ) (o : Option Entry) → AllByRecursion IsInRange pool → slice_get pool place ≡ o → utf8_of o ≡ Some units → IsPoolText units
+by_place : (pool : List Entry) (units : List ℕ) (place : ℕ) (o : Option Entry) → AllByRecursion IsEntryInRange pool → slice_get pool place ≡ o → utf8_of o ≡ Some units → IsPoolText units
 by_place pool units place None all at h = absurd (let f : None ≡ Some units = h in cc)
-by_place pool units place (Some e) all at h = by_entry units e (all_at IsInRange pool place e all at) h
+by_place pool units place (Some e) all at h = by_entry units e (all_at IsEntryInRange pool place e all at) h
 
-text_fits : (pool : List Entry) (units : List ℕ) (index : ℕ) → AllByRecursion IsInRange pool → utf8_of (entry_at pool index) ≡ Some units → IsPoolText units
+text_fits : (pool : List Entry) (units : List ℕ) (index : ℕ) → AllByRecursion IsEntryInRange pool → utf8_of (entry_at pool index) ≡ Some units → IsPoolText units
 text_fits pool units zero all h = absurd (let f : None ≡ Some units = h in cc)
 text_fits pool units (suc place) all h = by_place pool units place (slice_get pool place) all refl h
 

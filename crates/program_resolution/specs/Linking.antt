@@ -6,7 +6,7 @@ use Rattle.lists.specs.Lists.{first}
 use Rattle.class_pool.specs.declared.class.ClassFile.{ClassFile}
 use Rattle.class_rules.specs.Grammar.{IsClass}
 use Rattle.class_lookup.specs.Hierarchy.{is_on_a_cycle, IsAcyclic}
-use Rattle.program_tables.specs.Tables.{HasBounds}
+use Rattle.program_tables.specs.Tables.{HasFileLimits}
 use Rattle.resolved_program.specs.Resolved.{AreResolved}
 use Rattle.program_resolution.specs.declared.refusal.ProgramRefusal.{ProgramRefusal}
 use Rattle.program_resolution.specs.declared.refusal.ProgramRefusal.TheVariants as answers
@@ -34,7 +34,7 @@ IsFirstOr refusals refusal = first refusals ≡ Some refusal
 pub record AreToLink (cs : List ClassFile) (files : ℕ) (declares : Bool) : Type 0 where
   pub there : core_count + files ≤ length cs
   pub grammar : AllByRecursion IsClass (files_in cs files)
-  pub bounds : AllByRecursion HasBounds (files_in cs files)
+  pub bounds : AllByRecursion HasFileLimits (files_in cs files)
   -- no core class is above itself, and no class at all where each file stands well
   pub core : causes_in cs Names (files_in cs files) ≡ [] → (c : ℕ) → c < core_count → is_on_a_cycle cs c ≡ false
   pub off : causes_in cs Names (files_in cs files) ≡ [] → causes_in cs Places (files_in cs files) ≡ []

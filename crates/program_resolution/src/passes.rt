@@ -4,7 +4,7 @@ ghost use Rattle.std.specs.List.{AllByRecursion, range_with_len};
 ghost use Rattle.program_tables.specs.Core.{core_count};
 ghost use Rattle.lists.specs.Lists.{first as first_of};
 ghost use Rattle.class_rules.specs.Grammar.{IsClass};
-ghost use Rattle.program_tables.specs.Tables.{HasBounds};
+ghost use Rattle.program_tables.specs.Tables.{HasFileLimits};
 ghost use Rattle.program_tables.specs.Placed.{duplicate_of};
 ghost use Rattle.program_tables.specs.Unresolved.{implements_all as implements_each};
 ghost use Rattle.class_lookup.specs.Hierarchy.{is_on_a_cycle};
@@ -232,7 +232,7 @@ fn refused_mention(
     requires there { number_of file < length classes.now }
     requires own { slice_get classes.now (number_of file) ≡ Some class.now }
     requires texts { texts.now ≡ classes.now }
-    requires bounds { HasBounds class.now }
+    requires bounds { HasFileLimits class.now }
     requires implements { implements_all ≡ implements_each classes.now (number_of file) }
     ensures { IfOk result (λ found. found ≡ first_of (causes classes.now Mentions file class.now)) }
 {
@@ -272,7 +272,7 @@ fn first_mention_by(
 ) -> Result<Option<ProgramRefusal>, NoMemory>
     requires there { core_count + files ≤ length classes.now }
     requires texts { texts.now ≡ classes.now }
-    requires bounds { AllByRecursion HasBounds (files_in classes.now files) }
+    requires bounds { AllByRecursion HasFileLimits (files_in classes.now files) }
     requires long { length implementing.now ≡ length classes.now }
     requires each { (c : ℕ) → c < length classes.now → slice_index_or implementing.now c false ≡ implements_each classes.now c }
     ensures { IfOk result (λ found. found ≡ first_of (causes_in classes.now Mentions (files_in classes.now files))) }
@@ -294,7 +294,7 @@ pub(crate) fn first_mention(
     files: u32,
 ) -> Result<Option<ProgramRefusal>, NoMemory>
     requires there { core_count + files ≤ length classes.now }
-    requires bounds { AllByRecursion HasBounds (files_in classes.now files) }
+    requires bounds { AllByRecursion HasFileLimits (files_in classes.now files) }
     ensures { IfOk result (λ found. found ≡ first_of (causes_in classes.now Mentions (files_in classes.now files))) }
 {
     let implementing = implementing_classes(alloc, classes)?;

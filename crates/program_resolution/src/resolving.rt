@@ -12,7 +12,7 @@ ghost use Rattle.program_resolution.specs.Linked.{most_files, calls_of, files_in
 ghost use Rattle.program_resolution.specs.Refusals.{Names, Places, causes_in, refusals};
 ghost use Rattle.program_resolution.specs.Linking.{AreToLink, AreAccepted, IsLinked, IsFirstOr, early_refusals, refusals_of};
 ghost use Rattle.program_tables.specs.Resolving.{HasBytes};
-ghost use Rattle.program_tables.specs.Tables.{HasBounds};
+ghost use Rattle.program_tables.specs.Tables.{HasFileLimits};
 ghost use Rattle.program_resolution.specs.declared.refusal.ProgramRefusal.TheVariants.{NoMain, TooManyClasses};
 ghost use Rattle.program_resolution.specs.Resolving.{IsFirstRefusal, IsProgramOf};
 
@@ -177,7 +177,7 @@ fn pass_mentions(
     declares_main: bool,
 ) -> Result<(), ProgramRefusal>
     requires there { core_count + files ≤ length classes.now }
-    requires bounds { AllByRecursion HasBounds (files_in classes.now files) }
+    requires bounds { AllByRecursion HasFileLimits (files_in classes.now files) }
     requires early { first_of (early_refusals classes.now files) ≡ None }
     ensures passed { IfOk result (λ done. refusals_of classes.now files declares_main ≡ []) }
     ensures refused { IfErr result (IsFirstOr (refusals_of classes.now files declares_main)) }

@@ -11,7 +11,7 @@ use Rattle.class_pool.specs.declared.entry.Entry.{Entry}
 use Rattle.class_pool.specs.declared.class.ClassFile.{ClassFile}
 use Rattle.class_pool.specs.Grammar.{entry_at}
 use Rattle.lists.proofs.Lemmas.{none≢some, some_same}
-use Rattle.program_tables.specs.Tables.{HasBounds}
+use Rattle.program_tables.specs.Tables.{HasFileLimits}
 use Rattle.program_tables.specs.declared.meanings.Meaning.{Meaning as Made}
 use Rattle.program_tables.specs.Entries.{Meaning, meaning_of, meaning_at, meanings_in, meanings_by, all_meanings, meaning_seen, meanings_seen}
 
@@ -22,8 +22,8 @@ all_at P [] i x h e = absurd (none≢some x e)
 all_at P (y ∷ xs) zero x h e = subst P (some_same y x e) h.0
 all_at P (y ∷ xs) (suc i) x h e = all_at P xs i x h.1 e
 
-pub small_pool : (cs : List ClassFile) (n : ℕ) (c : ClassFile) → AllByRecursion HasBounds cs → slice_get cs n ≡ Some c → length c.pool < 65536
-small_pool cs n c h e = let b = all_at HasBounds cs n c h e in let small = b.pool in omega (arith, small)
+pub small_pool : (cs : List ClassFile) (n : ℕ) (c : ClassFile) → AllByRecursion HasFileLimits cs → slice_get cs n ≡ Some c → length c.pool < 65536
+small_pool cs n c h e = let b = all_at HasFileLimits cs n c h e in let small = b.pool in omega (arith, small)
 
 -- ---- one more
 

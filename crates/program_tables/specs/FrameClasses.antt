@@ -10,21 +10,21 @@ use Rattle.class_pool.specs.declared.class.Code.{Code}
 use Rattle.class_pool.specs.Found.{stack_map_of}
 
 -- Of each part: the indexes of the classes that it names, and the bytes behind it; nothing where the bytes are no such part.
-abbrev pub Part : Type 0
-Part = List ℕ → Option (List ℕ × List ℕ)
+abbrev pub FramePart : Type 0
+FramePart = List ℕ → Option (List ℕ × List ℕ)
 
 -- so many parts in a row
-unfoldable pub many : Part → ℕ → Part
+unfoldable pub many : FramePart → ℕ → FramePart
 many part zero bytes = Some ([], bytes)
 many part (suc n) bytes = onto (part bytes) (λ first. onto (many part n first.1) (λ others. Some (first.0 ++ others.0, others.1)))
 
 -- a number, and so many parts
-abbrev pub counted : Part → Part
+abbrev pub counted : FramePart → FramePart
 counted part bytes = onto (number_in 2 bytes) (λ n. many part n.0 n.1)
 
 -- a verification type: Top, Integer, Long, Null and UninitializedThis are a tag alone; Object has a class, Uninitialized a place; float and double
 -- aren't supported
-unfoldable pub type_in : Part
+unfoldable pub type_in : FramePart
 type_in [] = None
 type_in (tag ∷ bytes) =
     if nat_lt tag 2 || tag == 4 || tag == 5 || tag == 6 then Some ([], bytes)
@@ -33,15 +33,15 @@ type_in (tag ∷ bytes) =
     else None
 
 -- what stands behind a number of two bytes
-abbrev pub behind_delta : Part → Part
+abbrev pub behind_delta : FramePart → FramePart
 behind_delta part bytes = onto (number_in 2 bytes) (λ delta. part delta.1)
 
 -- all local variables, then the whole stack
-abbrev pub full_in : Part
+abbrev pub full_in : FramePart
 full_in bytes = onto (counted type_in bytes) (λ locals. onto (counted type_in locals.1) (λ stack. Some (locals.0 ++ stack.0, stack.1)))
 
 -- a frame: same_frame, same_locals_1_stack_item_frame and its extended form, chop_frame and same_frame_extended, append_frame, full_frame
-unfoldable pub frame_in : Part
+unfoldable pub frame_in : FramePart
 frame_in [] = None
 frame_in (tag ∷ bytes) =
     if nat_lt tag 64 then Some ([], bytes)

@@ -25,6 +25,7 @@ use Rattle.class_lookup.specs.Selection.{select}
 use Rattle.program_tables.specs.Core.{raised_classes}
 use Rattle.program_tables.specs.Kinds.{kind_of_entry, field_declared, parameters_declared, result_declared}
 use Rattle.program_tables.specs.Numbers.{methods_by_number, method_number, static_fields, instance_fields, types_of, class_type_number, constant_entry}
+use Rattle.program_tables.specs.Numbers.{method_text}
 use Rattle.program_tables.specs.Numbers.{strings_of, string_number}
 use Rattle.program_tables.specs.Operands.{string_object, operand_in, guarded_in, at_instruction}
 
@@ -97,6 +98,10 @@ objects_at_start cs = map (raised_object cs) raised_classes ++ flat_map string_o
 -- by method numbers
 abbrev pub at_method : {A : Type 0} → List ClassFile → (method : ℕ) → (none : A) → (Place → A) → A
 at_method cs m none say = option_map_or say (slice_get (methods_by_number cs) m) none
+
+-- the name of a method: its class's name, a dot, its own name and its descriptor
+abbrev pub method_name : List ClassFile → (method : ℕ) → List ℕ
+method_name cs m = at_method cs m [] (method_text cs)
 
 -- the last class's method
 abbrev pub boot_of : List ClassFile → ℕ

@@ -52,6 +52,6 @@ abbrev pub numbers_among : (strings : List (List ℕ)) → List ClassFile → Li
 numbers_among strings cs = map (λ text. index_of (same_text text) strings) (texts cs)
 
 -- a class's pool and its code have as many entries and bytes as a class file's (4.1, 4.7.3)
-pub record HasBounds (c : ClassFile) : Type 0 where
+pub record HasFileLimits (c : ClassFile) : Type 0 where
   pub pool : length c.pool < 2 ^ 16
   pub code : AllByRecursion (λ m. IfSome (code_of m) (λ k. length k.code ≤ longest_file)) c.methods

@@ -12,7 +12,7 @@ ghost use Rattle.program_tables.specs.Kinds.{kind_of_entry};
 ghost use Rattle.program_tables.specs.Marks.{AreAdded, AreArrays, AreLiterals, AreMentions};
 ghost use Rattle.program_tables.specs.Numbers.{reference_arrays, used_by, class_kind, arrays_mentioned_by, arrays_mentioned_in, first_types, types_of};
 ghost use Rattle.program_tables.specs.Numbers.{strings_of, string_in, constant_named, constant_entry, strings_in};
-ghost use Rattle.program_tables.specs.Tables.{kind_seen, kinds_of, HasBounds};
+ghost use Rattle.program_tables.specs.Tables.{kind_seen, kinds_of, HasFileLimits};
 
 use crate::kinds::{Base, ObjectKind};
 use crate::named::{Named, entry_at, named_in};
@@ -289,7 +289,7 @@ impl Mentions {
         number: u32,
         class: &ClassFile,
     ) -> Result<(), NoMemory>
-        requires bounds { HasBounds class.now }
+        requires bounds { HasFileLimits class.now }
         requires number { number < length texts.now }
         requires class { slice_get texts.now number ≡ Some class.now }
         requires added { AreMentions texts.now self.now }
@@ -315,7 +315,7 @@ impl Mentions {
         number: u32,
         class: &ClassFile,
     ) -> Result<(), NoMemory>
-        requires bounds { HasBounds class.now }
+        requires bounds { HasFileLimits class.now }
         requires number { number < length texts.now }
         requires class { slice_get texts.now number ≡ Some class.now }
         requires added { AreMentions texts.now self.now }
@@ -371,7 +371,7 @@ fn no_mentions(alloc: Global, classes: &Classes) -> Result<Mentions, NoMemory>
 
 /// The types and the strings of all classes.
 fn mentions_of(alloc: Global, texts: &TextTypes<'_>) -> Result<Mentions, NoMemory>
-    requires { AllByRecursion HasBounds texts.now }
+    requires { AllByRecursion HasFileLimits texts.now }
     ensures types { IfOk result (λ m. kinds_of m.arrays.types ≡ types_of texts.now) }
     ensures strings { IfOk result (λ m. m.literals.strings ≡ strings_of texts.now) }
 {
@@ -392,7 +392,7 @@ pub struct Mentioned {
 
 /// The types and the string literals of these classes, by number.
 pub fn mentioned_by(alloc: Global, texts: &TextTypes<'_>) -> Result<Mentioned, NoMemory>
-    requires { AllByRecursion HasBounds texts.now }
+    requires { AllByRecursion HasFileLimits texts.now }
     ensures types { IfOk result (λ m. map kind_seen m.types ≡ types_of texts.now) }
     ensures strings { IfOk result (λ m. m.strings ≡ strings_of texts.now) }
 {

@@ -5,7 +5,7 @@ ghost use Rattle.class_lookup.specs.Lookup.{field_at, method_at};
 ghost use Rattle.program_tables.specs.Entries.{meaning_of, meanings_in, all_meanings, meaning_seen, meanings_seen, field_found, method_found};
 ghost use Rattle.program_tables.specs.Meanings.{operand_seen};
 ghost use Rattle.program_tables.specs.Operands.{constant_operand, field_operand, method_operand, is_guarded_member};
-ghost use Rattle.program_tables.specs.Tables.{HasBounds};
+ghost use Rattle.program_tables.specs.Tables.{HasFileLimits};
 ghost use Rattle.resolved_program.specs.Entries.{AreTables};
 
 use crate::instances::Instances;
@@ -264,7 +264,7 @@ pub(crate) fn all_meanings(
     tables: &Tables<'_>,
 ) -> Result<Vec<Items<Meaning>>, NoMemory>
     requires tables { AreTables tables.now.classes.now tables.now }
-    requires bounds { AllByRecursion HasBounds tables.now.classes.now }
+    requires bounds { AllByRecursion HasFileLimits tables.now.classes.now }
     ensures { IfOk result (λ made. map meanings_seen made.items ≡ all_meanings tables.now.classes.now) }
 {
     let listed = tables.classes.classes();

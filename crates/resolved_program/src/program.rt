@@ -12,7 +12,7 @@ ghost use Rattle.program_tables.specs.Numbers.{instance_fields, instance_number,
 ghost use Rattle.program_tables.specs.Meanings.{declared_seen, HasShape};
 ghost use Rattle.program_tables.specs.Resolved.{at_method, declared_at, resolved};
 ghost use Rattle.program_tables.specs.Resolving.{IsResolved};
-ghost use Rattle.program_tables.specs.Tables.{kind_seen, HasBounds};
+ghost use Rattle.program_tables.specs.Tables.{kind_seen, HasFileLimits};
 ghost use Rattle.program_tables.specs.Entries.{meaning_at, meaning_seen};
 ghost use Rattle.resolved_program.specs.Resolved.{AreResolved};
 
@@ -81,7 +81,7 @@ fn have_no_cycle(classes: &[ClassFile])
 /// Resolved classes have as few entries and bytes as class files have. It does nothing.
 fn have_bounds(classes: &Hierarchy)
     requires { AreResolved classes.now }
-    ensures { AllByRecursion HasBounds classes.now }
+    ensures { AllByRecursion HasFileLimits classes.now }
 {
     methods_have_code();
 }
@@ -132,7 +132,7 @@ impl Program {
 
     /// The classes have as few entries and bytes as class files have. It does nothing; a caller whose proof needs the fact calls it.
     pub fn is_within_bounds(&self)
-        ensures { AllByRecursion HasBounds self.now }
+        ensures { AllByRecursion HasFileLimits self.now }
     {
         self.is_resolved();
         methods_have_code();

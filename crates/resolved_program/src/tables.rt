@@ -4,7 +4,7 @@ ghost use Rattle.std.specs.List.{AllByRecursion};
 ghost use Rattle.program_tables.specs.Entries.{all_meanings, meanings_seen};
 ghost use Rattle.program_tables.specs.Meanings.{field_types_in, types_seen, AreShapes};
 ghost use Rattle.program_tables.specs.Numbers.{methods_by_number, fields_by_number, static_fields, types_of, strings_of};
-ghost use Rattle.program_tables.specs.Tables.{kind_seen, HasBounds};
+ghost use Rattle.program_tables.specs.Tables.{kind_seen, HasFileLimits};
 ghost use Rattle.resolved_program.specs.Entries.{AreProgramTables};
 ghost use Rattle.resolved_program.specs.Instances.{own_lists, instance_counts};
 
@@ -62,7 +62,7 @@ fn entry_tables(
     requires texts { texts.now ≡ classes.now }
     requires methods { members.now.methods ≡ methods_by_number classes.now }
     requires statics { members.now.statics ≡ static_fields classes.now }
-    requires bounds { AllByRecursion HasBounds classes.now }
+    requires bounds { AllByRecursion HasFileLimits classes.now }
     ensures types { IfOk result (λ made. map kind_seen made.mentioned.types ≡ types_of classes.now) }
     ensures strings { IfOk result (λ made. made.mentioned.strings ≡ strings_of classes.now) }
     ensures own { IfOk result (λ made. made.instances.own.items ≡ own_lists classes.now) }
@@ -101,7 +101,7 @@ fn entries_of(
     requires strings { strings.now ≡ strings_of classes.now }
     requires own { instances.now.own.items ≡ own_lists classes.now }
     requires counts { instances.now.counts.items ≡ instance_counts classes.now }
-    requires bounds { AllByRecursion HasBounds classes.now }
+    requires bounds { AllByRecursion HasFileLimits classes.now }
     ensures { IfOk result (λ made. map meanings_seen made.items ≡ all_meanings classes.now) }
 {
     let numbers = StringNumbers::new(alloc, classes.classes(), strings)?;
@@ -129,7 +129,7 @@ fn tables_by(
     texts: &TextTypes<'_>,
 ) -> Result<ProgramTables, NoMemory>
     requires texts { texts.now ≡ classes.now }
-    requires bounds { AllByRecursion HasBounds classes.now }
+    requires bounds { AllByRecursion HasFileLimits classes.now }
     ensures { IfOk result (AreProgramTables classes.now) }
 {
     let by_number = member_tables(alloc, texts)?;
@@ -142,7 +142,7 @@ fn tables_by(
 
 /// The tables of these classes.
 pub(crate) fn tables_of(alloc: Global, classes: &Hierarchy) -> Result<ProgramTables, NoMemory>
-    requires { AllByRecursion HasBounds classes.now }
+    requires { AllByRecursion HasFileLimits classes.now }
     ensures { IfOk result (AreProgramTables classes.now) }
 {
     match TextTypes::new(alloc, classes.classes()) {

@@ -4,7 +4,7 @@ use Rattle.std.specs.declared.option.Option.{Option}
 use Rattle.std.specs.List.{concat}
 use Rattle.opcodes.specs.Row.{row_of}
 use Rattle.device_traits.specs.declared.seen.Seen.{Seen}
-use Rattle.device_traits.specs.Told.{Note, Wrote, Saw}
+use Rattle.device_traits.specs.Told.{DeviceNote, Wrote, Saw}
 use Rattle.run_devices.specs.declared.lines.AtBoundary.{AtBoundary}
 use Rattle.ascii_text.specs.Hex.{hex, short_hex}
 
@@ -37,7 +37,7 @@ cycle_line at = registers_line at.clock (short_hex at.mpc) (hex 8 at.a) (hex 8 a
 -- ---- of what the devices note
 
 -- what a trace has of the bytes that a step writes and, with its cycles, of the states from which these are done
-abbrev pub note_line : (cycles : Bool) → Note → List ℕ
+abbrev pub note_line : (cycles : Bool) → DeviceNote → List ℕ
 note_line cycles (Wrote byte) = write_line byte
 note_line true (Saw at) = cycle_line at
 note_line false (Saw at) = []

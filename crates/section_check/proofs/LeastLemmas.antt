@@ -3,7 +3,7 @@ use Rattle.std.proofs.Common.{◌≡◌, ℕ, ◌+◌, ◌<◌, ◌⊎◌, List,
 use Rattle.std.proofs.lemmas.Bool.{cases_lt}
 use Rattle.std.proofs.lemmas.List.{get_or_default}
 use Rattle.section_check.specs.Placing.{IsEntryAt}
-use Rattle.section_check.specs.Least.{IsLeast, lesser_of, IsWithin}
+use Rattle.section_check.specs.Least.{IsLeast, lesser_of, IsSubset}
 
 -- what stands at a place
 pub same_at : {X : Type 0} (xs : List X) (i : ℕ) (x r : X) → IsEntryAt xs i x → r ≡ get_or xs i r → r ≡ x
@@ -34,8 +34,8 @@ least_either P Q R (Some m) (Some n) p q cases ha hb = (
   λ u less r. elim (cases u r) [ inl x ↦ ha.1 u (omega arith) x | inr y ↦ hb.1 u (omega arith) y ],
 )
 
-pub within_as : (us vs ms ns : List ℕ) → us ≡ ms → vs ≡ ns → IsWithin us vs → IsWithin ms ns
+pub within_as : (us vs ms ns : List ℕ) → us ≡ ms → vs ≡ ns → IsSubset us vs → IsSubset ms ns
 within_as us vs ms ns a b h =
-    let P : List ℕ → Type 0 = λ zs. IsWithin us zs in
-    let Q : List ℕ → Type 0 = λ zs. IsWithin zs ns in
+    let P : List ℕ → Type 0 = λ zs. IsSubset us zs in
+    let Q : List ℕ → Type 0 = λ zs. IsSubset zs ns in
     subst Q a (subst P b h)

@@ -78,9 +78,9 @@ pub record IsFirstFailingExit (g : Digraph) (costs : List ℕ) (c : Certified) (
   pub first : (x : ℕ) → Contains g.exits x → x < u → ExitHolds costs c x
 
 -- the answer to a section: its value, or the first condition that fails. Those on nodes come before those on edges, and these before those on exits.
-abbrev pub Answers : Digraph → List ℕ → Certified → List ℕ → List (Option ℕ) → Result (Option ℕ) SectionFault → Type 0
-Answers g costs c bounds loads (Ok value) = IsAccepted g costs c bounds loads × (value ≡ value_of c (priced c.loops bounds loads))
-Answers g costs c bounds loads (Err (faults.Member u)) = IsFirstMisplaced g c bounds loads u
-Answers g costs c bounds loads (Err (faults.Edge u v)) = AreWellPlaced g c bounds loads × IsFirstFailingEdge g costs c (priced c.loops bounds loads) u v
-Answers g costs c bounds loads (Err (faults.Exit u)) = AreWellPlaced g c bounds loads × EdgesHold g costs c (priced c.loops bounds loads)
+abbrev pub IsSectionAnswer : Digraph → List ℕ → Certified → List ℕ → List (Option ℕ) → Result (Option ℕ) SectionFault → Type 0
+IsSectionAnswer g costs c bounds loads (Ok value) = IsAccepted g costs c bounds loads × (value ≡ value_of c (priced c.loops bounds loads))
+IsSectionAnswer g costs c bounds loads (Err (faults.Member u)) = IsFirstMisplaced g c bounds loads u
+IsSectionAnswer g costs c bounds loads (Err (faults.Edge u v)) = AreWellPlaced g c bounds loads × IsFirstFailingEdge g costs c (priced c.loops bounds loads) u v
+IsSectionAnswer g costs c bounds loads (Err (faults.Exit u)) = AreWellPlaced g c bounds loads × EdgesHold g costs c (priced c.loops bounds loads)
     × IsFirstFailingExit g costs c u

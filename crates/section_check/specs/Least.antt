@@ -36,5 +36,5 @@ abbrev pub Meet : List ℕ → List ℕ → Type 0
 Meet us vs = (x : ℕ) × Contains us x × Contains vs x
 
 -- each number of the first set is one of the second
-abbrev pub IsWithin : List ℕ → List ℕ → Type 0
-IsWithin us vs = (x : ℕ) → Contains us x → Contains vs x
+abbrev pub IsSubset : List ℕ → List ℕ → Type 0
+IsSubset us vs = (x : ℕ) → Contains us x → Contains vs x

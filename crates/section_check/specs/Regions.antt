@@ -15,14 +15,14 @@ abbrev pub with_regions : Certified → List Bool → Certified
 with_regions c regions = record c { loops = marked c.loops regions }
 
 -- loop i is to be a region
-abbrev pub IsRegion : List Bool → ℕ → Type 0
-IsRegion regions i = slice_index_or regions i false ≡ true
+abbrev pub IsRegionLoop : List Bool → ℕ → Type 0
+IsRegionLoop regions i = slice_index_or regions i false ≡ true
 
 -- it is said of each loop whether it is a region, each region has a load, and none lies in another
 pub record AreRegions (ls : List CertifiedLoop) (loads : List (Option ℕ)) (regions : List Bool) : Type 0 where
   pub long : length regions ≡ length ls
-  pub loaded : (i : ℕ) → IsRegion regions i → ¬ IsEntryAt loads i None
-  pub apart : (i k : ℕ) (l m : CertifiedLoop) → IsEntryAt ls i l → IsEntryAt ls k m → k ≢ i → IsRegion regions i → IsRegion regions k → ¬ LiesIn l m
+  pub loaded : (i : ℕ) → IsRegionLoop regions i → ¬ IsEntryAt loads i None
+  pub apart : (i k : ℕ) (l m : CertifiedLoop) → IsEntryAt ls i l → IsEntryAt ls k m → k ≢ i → IsRegionLoop regions i → IsRegionLoop regions k → ¬ LiesIn l m
 
 -- an accepted section stays accepted, with its value, where its loops are marked as regions
 abbrev pub MarkedStaysAccepted : Type 0

@@ -3,7 +3,7 @@ ghost use Rattle.std.specs.Prelude.{◌≡◌, ◌≢◌, ℕ, ◌<◌, ◌↔�
 ghost use Rattle.std.specs.List.Sorted.{IsStrictlyIncreasing};
 ghost use Rattle.section_check.specs.Section.{CertifiedLoop, HeadersRise, MembersRise};
 ghost use Rattle.section_check.specs.Placing.{IsEntryAt, LiesIn, AreCrossed, SharesHeader, CrossesAnother, LiesInRegion, IsFaulty, HeadsFaulty};
-ghost use Rattle.section_check.specs.Least.{IsLeast, Meet, IsWithin};
+ghost use Rattle.section_check.specs.Least.{IsLeast, Meet, IsSubset};
 
 use super::lookups::has;
 use super::section::CertLoop;
@@ -40,7 +40,7 @@ fn meets(a: &[u32], b: &[u32]) -> bool
 /// Whether all of the nodes `a` are among the nodes `b`.
 fn lies_in(a: &[u32], b: &[u32]) -> bool
     requires { IsStrictlyIncreasing b.now }
-    ensures { IsTrue result ↔ IsWithin a.now b.now }
+    ensures { IsTrue result ↔ IsSubset a.now b.now }
 {
     for u in a {
         if !has(b, *u) {

@@ -6,7 +6,7 @@ ghost use Rattle.std.specs.Prelude.{◌≡◌, length, IfOk};
 ghost use Rattle.section_check.specs.Section.{IsInForm};
 ghost use Rattle.section_check.specs.Placing.{HeadsFaulty};
 ghost use Rattle.section_check.specs.Least.{IsLeast, LeadsAside};
-ghost use Rattle.section_check.specs.Conditions.{Answers};
+ghost use Rattle.section_check.specs.Conditions.{IsSectionAnswer};
 ghost use Rattle.section_check.specs.Laws.{BoundsWalks, loops_of};
 
 mod descent;
@@ -38,7 +38,7 @@ pub fn check_section(
 ) -> Result<Option<u64>, SectionFault>
     requires costs { length costs.now ≡ g.now.nodes }
     requires form { IsInForm s.now bounds.now loads.now }
-    ensures answers { Answers g.now costs.now s.now bounds.now loads.now result }
+    ensures answers { IsSectionAnswer g.now costs.now s.now bounds.now loads.now result }
     ensures bounds { IfOk result (BoundsWalks g.now costs.now (loops_of s.now bounds.now loads.now)) }
 {
     let faulty = faulty_header(s.loops(), loads);
@@ -61,7 +61,7 @@ pub fn check_further(
     requires form { IsInForm s.now bounds.now loads.now }
     requires faulty { IsLeast (HeadsFaulty s.now.loops loads.now) faulty }
     requires aside { IsLeast (LeadsAside g.now s.now.loops) aside }
-    ensures answers { Answers g.now costs.now s.now bounds.now loads.now result }
+    ensures answers { IsSectionAnswer g.now costs.now s.now bounds.now loads.now result }
     ensures bounds { IfOk result (BoundsWalks g.now costs.now (loops_of s.now bounds.now loads.now)) }
 {
     if let Some(u) = misplaced(g, s, bounds, loads, faulty, aside) {

@@ -4,7 +4,7 @@
 
 ghost use Rattle.std.specs.Prelude.{◌≡◌, length, IfOk};
 ghost use Rattle.section_check.specs.Section.{IsInForm};
-ghost use Rattle.section_check.specs.Conditions.{Answers};
+ghost use Rattle.section_check.specs.Conditions.{IsSectionAnswer};
 ghost use Rattle.section_check.specs.Laws.{BoundsWalks, loops_of};
 
 mod aside;
@@ -35,7 +35,7 @@ pub fn check_with_index(
 ) -> Result<Result<Option<u64>, SectionFault>, NoMemory>
     requires costs { length costs.now ≡ g.now.nodes }
     requires form { IsInForm s.now bounds.now loads.now }
-    ensures answers { IfOk result (Answers g.now costs.now s.now bounds.now loads.now) }
+    ensures answers { IfOk result (IsSectionAnswer g.now costs.now s.now bounds.now loads.now) }
     ensures bounds { IfOk result (λ answer. IfOk answer (BoundsWalks g.now costs.now (loops_of s.now bounds.now loads.now))) }
 {
     let loops = s.loops();

@@ -19,7 +19,7 @@ use Rattle.class_making.specs.declared.item.Item.{Item}
 use Rattle.class_making.specs.declared.item.Item.TheVariants.{Text, Class}
 use Rattle.class_making.specs.declared.plan.Piece.{Piece}
 use Rattle.class_making.specs.Plans.{piece_mentions, piece_bytes, method_mentions, plan_mentions, items_of, method_in, class_of}
-use Rattle.class_making.specs.Right.{IsPoolText, IsRightMention, code_length, IsRightPiece, IsRightCode, IsRightMethod, IsRightPlan}
+use Rattle.class_making.specs.Right.{IsPoolText, IsRightMention, code_length, IsRightPiece, IsRightCodePlan, IsRightMethodPlan, IsRightPlan}
 use Rattle.class_making.specs.Laws.{PlansAreClasses, ClassesSayPlans, PlansHaveBytes, ItemsAreFew}
 use Rattle.slot_table.specs.declared.slot.Slot.{Slot}
 use Rattle.slot_table.specs.Slots.{IsRightSlot, AreRightSlots, IsTable}
@@ -150,7 +150,7 @@ frame_case delta false = lit≤ tt
 frames_short : (n : ℕ) → length (frames_bytes n) ≤ 9
 frames_short n = let short = frame_case (12 + 3 * n) (nat_lt (12 + 3 * n) 64) in omega (arith, short)
 
-code_right : (slots : List Slot) (rounds : ℕ) → length slots ≤ 64 → IsRightCode (main_code slots rounds)
+code_right : (slots : List Slot) (rounds : ℕ) → length slots ≤ 64 → IsRightCodePlan (main_code slots rounds)
 code_right slots rounds few =
     let size = main_length slots rounds in
     let frames = frames_short (length slots) in
@@ -195,7 +195,7 @@ main_mentioned slots rounds h = (
   ),
 )
 
-main_right : (slots : List Slot) (rounds : ℕ) → length slots ≤ 64 → IsRightMethod 0x0021 (main_method slots rounds)
+main_right : (slots : List Slot) (rounds : ℕ) → length slots ≤ 64 → IsRightMethodPlan 0x0021 (main_method slots rounds)
 main_right slots rounds few = record {
   flags = lit< tt;
   name = (refl, refl);

@@ -12,7 +12,7 @@ use Rattle.slot_table.specs.declared.slot.Slot.{Slot}
 use Rattle.slot_table.specs.declared.table.TableFault.{TableFault}
 use Rattle.slot_table.specs.declared.table.TableFault.TheVariants as faults
 use Rattle.slot_table.specs.Slots.{AreRightSlots}
-use Rattle.slot_table.specs.Grammar.{SaysSlot, IsNoSlotLine, GiveSlots, IsSlotCount, IsTableRead, IsTableReadTo, IsTableRefused, Adds, LineFails, CountFails}
+use Rattle.slot_table.specs.Grammar.{SaysSlot, IsNoSlotLine, GiveSlots, IsSlotCount, IsTableRead, IsTableReadTo, IsTableRefused, Adds, SlotLineFails, CountFails}
 
 -- ---- one line more
 
@@ -96,7 +96,7 @@ reached text number left rest line slots r e = (
 )
 
 pub line_refused : (text : List ℕ) (number : ℕ) (left rest : List (List ℕ)) (line : List ℕ) (slots : List Slot) → IsReadSoFar text number left slots → left ≡ line ∷ rest
-    → (fault : TableFault) → LineFails line (number + 1) fault → IsTableRefused text fault
+    → (fault : TableFault) → SlotLineFails line (number + 1) fault → IsTableRefused text fault
 line_refused text number left rest line slots r e (faults.Line n) h =
     let to = reached text number left rest line slots r e in
     subst (λ (k : ℕ). (r : IsTableReadTo text k) × IsNoSlotLine r.line) (sym h.0) (to.0, subst IsNoSlotLine (sym to.1) h.1)

@@ -87,10 +87,10 @@ pub record Adds (line : List ℕ) (old new : List Slot) : Type 0 where
   pub says : SaysSlot line said
   pub new_is : new ≡ old ++ option_to_list said
 
-abbrev pub LineFails : (line : List ℕ) → (number : ℕ) → TableFault → Type 0
-LineFails line number (Line n) = (n ≡ number) × IsNoSlotLine line
-LineFails line number (Count n) = ⊥
-LineFails line number NoMemory = Unit {0}
+abbrev pub SlotLineFails : (line : List ℕ) → (number : ℕ) → TableFault → Type 0
+SlotLineFails line number (Line n) = (n ≡ number) × IsNoSlotLine line
+SlotLineFails line number (Count n) = ⊥
+SlotLineFails line number NoMemory = Unit {0}
 
 abbrev pub CountFails : (count : ℕ) → TableFault → Type 0
 CountFails count (Line n) = ⊥

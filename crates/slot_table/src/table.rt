@@ -1,7 +1,7 @@
 //! The table.
 ghost use Rattle.std.specs.Prelude.{◌≡◌, ◌≤◌, ◌<◌, ◌^◌, length, map, IfOk, IfErr, OnOk};
 ghost use Rattle.slot_table.specs.Slots.{length_of, IsTable, AreRightSlots};
-ghost use Rattle.slot_table.specs.Grammar.{IsTableRead, IsTableRefused, Adds, LineFails, IsSlotCount, CountFails};
+ghost use Rattle.slot_table.specs.Grammar.{IsTableRead, IsTableRefused, Adds, SlotLineFails, IsSlotCount, CountFails};
 
 use crate::line::read_line;
 use crate::slot::Slot;
@@ -93,7 +93,7 @@ fn take_line(
     number: u32,
 ) -> Result<(), TableFault>
     ensures said { OnOk result (Adds line.now slots.old.items slots.new.items) }
-    ensures refused { IfErr result (LineFails line.now number) }
+    ensures refused { IfErr result (SlotLineFails line.now number) }
 {
     match read_line(alloc, line) {
         Ok(None) => Ok(()),

@@ -2,7 +2,7 @@
 use Rattle.std.proofs.Common.{◌≡◌, ℕ, List, [], ◌∷◌, ◌++◌, length, Option, Some, None, sym, ap, ◌∙◌, subst, arith}
 use Rattle.std.specs.Prelude.{◌==◌, codes, IfNone}
 use Rattle.std.specs.List.{slice_split}
-use Rattle.loop_bounds.specs.Grammar.{IsNumber}
+use Rattle.loop_bounds.specs.Lines.{IsNumber}
 use Rattle.source_bounds.specs.Notes.{Subject, AtLine, AtPlace, Note}
 use Rattle.source_bounds.specs.Grammar.{IsSource, IsLoopWord, IsNoteLine, IsNote}
 use Rattle.source_bounds.specs.Meaning.{IsOfSource, IsSourceNote, IsOfPlace, IsPlaceNote}

@@ -5,7 +5,8 @@ use Rattle.std.proofs.lemmas.Bool.{cases_Bool, true≢false}
 use Rattle.std.proofs.lemmas.List.{append_cancel_left}
 use Rattle.ascii_text.specs.Line.{lines_of}
 use Rattle.loop_bounds.specs.Bounds.{LoopBound, bound_in as bound_by_place, AreOfDifferentLoops}
-use Rattle.loop_bounds.specs.Grammar.{IsNumber, Says as SaysByPlace, Give as GiveByPlace}
+use Rattle.loop_bounds.specs.Grammar.{SaysLoopBound as SaysByPlace, Give as GiveByPlace}
+use Rattle.loop_bounds.specs.Lines.{IsNumber}
 use Rattle.source_bounds.specs.declared.SourceFault.{SourceFault}
 use Rattle.source_bounds.specs.declared.SourceFault.TheVariants as faults
 use Rattle.source_bounds.specs.Notes.{Subject, AtLine, AtPlace, same_subject, Note, bound_in, AreOfDifferentSubjects}

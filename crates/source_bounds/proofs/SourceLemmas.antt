@@ -3,7 +3,7 @@ use Rattle.std.proofs.Common.{◌≡◌, ◌≢◌, ℕ, zero, suc, ◌+◌, ◌
 use Rattle.std.proofs.lemmas.Bool.{cases_order}
 use Rattle.std.proofs.lemmas.List.{take_at, drop_at, length-take}
 use Rattle.std.proofs.lemmas.Str.Parse.{digit_at}
-use Rattle.loop_bounds.specs.Grammar.{IsNumber}
+use Rattle.loop_bounds.specs.Lines.{IsNumber}
 use Rattle.source_bounds.specs.Grammar.{IsSource}
 
 -- the last colon of a text

@@ -2,7 +2,8 @@
 use Rattle.std.specs.Prelude.{◌≡◌, ℕ, suc, ◌==◌, ◌<◌, List, [], ◌∷◌, ◌++◌, length, codes, IsSome}
 use Rattle.std.specs.List.{slice_split}
 use Rattle.ascii_text.specs.Line.{lines_of}
-use Rattle.loop_bounds.specs.Grammar.{IsSilent, IsNumber, IsLoopLine}
+use Rattle.loop_bounds.specs.Grammar.{IsLoopLine}
+use Rattle.loop_bounds.specs.Lines.{IsNumber, IsSilent}
 use Rattle.source_bounds.specs.declared.SourceFault.{SourceFault}
 use Rattle.source_bounds.specs.declared.SourceFault.TheVariants.{Line, Twice, NoMemory}
 use Rattle.source_bounds.specs.Notes.{Subject, AtLine, AtPlace, Note, bound_in, AreOfDifferentSubjects}

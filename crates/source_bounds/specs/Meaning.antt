@@ -1,7 +1,7 @@
 -- What the fields of bounds mean, and what a line is found to say.
 use Rattle.std.specs.Prelude.{◌≡◌, ◌≢◌, ◌<◌, ℕ, Bool, true, false, ◌==◌, List, [], ◌∷◌, length, slice_index_or}
 use Rattle.std.specs.List.{slice_split}
-use Rattle.loop_bounds.specs.Grammar.{IsNumber}
+use Rattle.loop_bounds.specs.Lines.{IsNumber}
 use Rattle.source_bounds.specs.declared.site.Site.{Site}
 use Rattle.source_bounds.specs.declared.parts.Parts.{Parts}
 use Rattle.source_bounds.specs.declared.parts.Parts.TheVariants.{Two, Three, Other}

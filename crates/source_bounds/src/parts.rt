@@ -1,7 +1,7 @@
 //! The parts of a line.
 ghost use Rattle.std.specs.Prelude.{◌≡◌, ◌≢◌, ◌==◌, ◌<◌, ◌∷◌, [], ℕ, List, length, position, slice_index, MatchOption, IfSome, IfNone};
 ghost use Rattle.std.specs.List.{slice_split};
-ghost use Rattle.loop_bounds.specs.Grammar.{IsNumber};
+ghost use Rattle.loop_bounds.specs.Lines.{IsNumber};
 ghost use Rattle.source_bounds.specs.Grammar.{IsSource, IsLoopWord};
 ghost use Rattle.source_bounds.specs.Meaning.{AreParts};
 

@@ -9,7 +9,7 @@ use Rattle.lists.proofs.Lemmas.{none≢some, some_same}
 use Rattle.lists.specs.Members.{at_head, in_tail, cons_cases, nil_contains}
 use Rattle.class_pool.specs.declared.class.ClassFile.{ClassFile}
 use Rattle.bytecode_model.specs.Program.{body_of}
-use Rattle.program_tables.specs.Resolved.{resolved}
+use Rattle.program_tables.specs.Resolved.{resolved, method_name}
 use Rattle.method_flow.specs.Flow.{Flow, IsFlowOf}
 use Rattle.loop_rules.specs.declared.found.FoundLoop.{FoundLoop}
 use Rattle.source_bounds.specs.Notes.{Subject, AtLine, AtPlace, Note}
@@ -23,7 +23,7 @@ use Rattle.source_headers.specs.declared.gathering.Gathered.{Gathered}
 use Rattle.method_sources.specs.Sources.{source_at, IsFileOf}
 use Rattle.source_headers.specs.Headers.{found_at, header_at, header_lines, named_lines, unnamed_lines, method_lines, IsMethodText}
 use Rattle.source_headers.specs.Straying.{MayBeBounded, IsHeaderAt, IsStray}
-use Rattle.source_headers.specs.Files.{name_of, AreMethodTexts}
+use Rattle.source_headers.specs.Files.{AreMethodTexts}
 use Rattle.source_headers.specs.Known.{KnownSites, IsWith}
 use Rattle.method_sources.specs.Told.{source_by}
 use Rattle.source_headers.specs.Told.{headed_places, header_by, named_by, lines_by, IsToldOf}
@@ -171,18 +171,18 @@ module _ (cs : List ClassFile) (notes : List Note) (found : List FoundLoop) wher
   }
 
   module _ (n : ℕ) (old new : Gathered) (left : List FoundLoop) (name : List ℕ) (x : MethodLoops) (h : AreGathered cs notes found n old) (adds : AddsMethod old new notes left n name x)
-      (told : IsToldOf cs n x) (named : name ≡ name_of cs n) (bounded : MayBeBounded (resolved cs) n) (same : (p : ℕ) → found_at left n p ≡ found_at found n p) where
+      (told : IsToldOf cs n x) (named : name ≡ method_name cs n) (bounded : MayBeBounded (resolved cs) n) (same : (p : ℕ) → found_at left n p ≡ found_at found n p) where
     t : List ℕ
-    t = method_lines cs notes found n (name_of cs n) x.shape
+    t = method_lines cs notes found n (method_name cs n) x.shape
 
     text_same : lines_by notes left n name x ≡ t
     unfolding t
     text_same = lines_same cs notes left found n name x told same ∙ ap (λ (y : List ℕ). method_lines cs notes found n y x.shape) named
 
-    each_more : (m : ℕ) (text : List ℕ) → slice_get (h.texts ++ t ∷ []) m ≡ Some text → IsMethodText (resolved cs) cs notes found (name_of cs) m text
+    each_more : (m : ℕ) (text : List ℕ) → slice_get (h.texts ++ t ∷ []) m ≡ Some text → IsMethodText (resolved cs) cs notes found (method_name cs) m text
     unfolding t
     each_more m text got =
-        let M : ℕ → Type 0 = λ k. IsMethodText (resolved cs) cs notes found (name_of cs) k text in
+        let M : ℕ → Type 0 = λ k. IsMethodText (resolved cs) cs notes found (method_name cs) k text in
         elim (got_cases h.texts t text m got) [
           | inl before ↦ h.each m text before
           | inr here ↦ let at : n ≡ m = sym (here.0 ∙ h.count) in subst M at (inr (bounded.1, (x.shape, told.shape, sym here.1)))
@@ -257,10 +257,10 @@ method_added (Err _) old new notes found m name x places are text names sites li
 
 -- ---- what strays
 
-pub stray_is : (cs : List ClassFile) (g : Gathered) → AreKnown cs g → (s : Subject) → IsLacking g s → IsStray cs (name_of cs) s
+pub stray_is : (cs : List ClassFile) (g : Gathered) → AreKnown cs g → (s : Subject) → IsLacking g s → IsStray cs (method_name cs) s
 stray_is cs g known (AtLine file line) l = ((known.files file).0 l.0, λ m p at is. l.1 ((known.lines (file, line)).1 (m, (p, at, is))))
 stray_is cs g known (AtPlace method pc) l = (let r = (known.names method).0 l.0 in (r.0, r.1.0, r.1.1), λ m at is. l.1 ((known.places (method, pc)).1 (m, (at, is))))
 
-pub is_stray : (cs : List ClassFile) (g : Gathered) → AreKnown cs g → (s : Subject) → IsStray cs (name_of cs) s → IsLacking g s
+pub is_stray : (cs : List ClassFile) (g : Gathered) → AreKnown cs g → (s : Subject) → IsStray cs (method_name cs) s → IsLacking g s
 is_stray cs g known (AtLine file line) h = ((known.files file).1 h.0, λ c. let r = (known.lines (file, line)).0 c in h.1 r.0 r.1.0 r.1.1 r.1.2)
 is_stray cs g known (AtPlace method pc) h = ((known.names method).1 (h.0.0, (h.0.1, h.0.2)), λ c. let r = (known.places (method, pc)).0 c in h.1 r.0 r.1.0 r.1.1)

@@ -5,7 +5,7 @@ use Rattle.std.proofs.lemmas.Bool.{cases_lt}
 use Rattle.std.proofs.lemmas.Option.{slice_get-get_or}
 use Rattle.lists.proofs.Lemmas.{none≢some, some_same}
 use Rattle.class_pool.specs.declared.class.ClassFile.{ClassFile}
-use Rattle.program_tables.specs.Resolved.{resolved}
+use Rattle.program_tables.specs.Resolved.{resolved, method_name}
 use Rattle.loop_nest.specs.Digraph.{Digraph}
 use Rattle.loop_nest.specs.Walks.{IsHeader, KeepsBound}
 use Rattle.method_flow.specs.Graphs.{IsGraphOf}
@@ -23,8 +23,8 @@ use Rattle.answer_lines.specs.LoopLine.{is_nameable}
 use Rattle.source_headers.specs.Headers.{lesser, found_at, header_at, said, said_of_line, written}
 use Rattle.method_sources.specs.Sources.{source_at}
 use Rattle.source_headers.specs.Straying.{MayBeBounded}
-use Rattle.source_headers.specs.Files.{name_of, AreMethodTexts}
-use Rattle.source_headers.specs.Laws.{written_of, HasNumbers, HeaderFilesHaveLines, KeptNotesAreKept, WrittenKeepsNotes}
+use Rattle.source_headers.specs.Files.{AreMethodTexts}
+use Rattle.source_headers.specs.Laws.{written_of, HasLoopNumbers, HeaderFilesHaveLines, KeptNotesAreKept, WrittenKeepsNotes}
 use Rattle.source_headers.proofs.ToldLemmas.{not_both}
 
 -- ---- the lesser of two
@@ -64,7 +64,7 @@ chosen false o n h = absurd (none≢some n h)
 
 pub kept : KeptNotesAreKept
 kept cs notes found m ns all g live p bound is =
-    let name = name_of cs m in
+    let name = method_name cs m in
     let header = header_at cs found m p in
     elim (lesser_is (found_at found m p) (said notes name header) bound (chosen (is_nameable name) (written notes name header) bound is)) [
       | inl of ↦ all.found_kept g live p bound of
@@ -77,7 +77,7 @@ kept cs notes found m ns all g live p bound is =
 
 pub exact : WrittenKeepsNotes
 exact cs notes found m ns named keeps =
-    let name = name_of cs m in
+    let name = method_name cs m in
     let W : BoundOf = written_of cs notes found in
     let is : (p : ℕ) → W m p ≡ written notes name (header_at cs found m p) = λ p. ap (λ (b : Bool). if b then written notes name (header_at cs found m p) else None) named in
     let less : (g : Digraph) → (p bound n : ℕ) → ((q k : ℕ) → W m q ≡ Some k → KeepsBound g (2 * q) k ns) → W m p ≡ Some n → n ≤ bound → KeepsBound g (2 * p) bound ns =
@@ -108,7 +108,7 @@ not_none (Some n) h e = none≢some n (sym e)
 
 module _ (moves : GraphsAreMoved) (sound : PartsAreSound) (ends : EndsAreOne) (one : GraphsAreOne) where
   with_numbers : (cs : List ClassFile) (notes : List Note) (found : List FoundLoop) (root m : ℕ) → AreReducible (resolved cs) root → HaveLines (resolved cs) (written_of cs notes found) root → IsWithin (resolved cs) root m
-      → (shape : Shape) → IsShape (resolved cs) m shape → HasNumbers cs notes found m shape
+      → (shape : Shape) → IsShape (resolved cs) m shape → HasLoopNumbers cs notes found m shape
   with_numbers cs notes found root m reducible lines within (Irreducible nodes) is = not_both moves sound ends one (resolved cs) m nodes.items is.0 is.1 (reducible m within)
   with_numbers cs notes found root m reducible lines within (Reducible places) is = λ p c.
       let heads = (is.1.each p).0 c in
@@ -124,11 +124,11 @@ module _ (moves : GraphsAreMoved) (sound : PartsAreSound) (ends : EndsAreOne) (o
         | inr of ↦ (of.1.0, of.1.1)
       ]
 
-  one_entry : (cs : List ClassFile) (notes : List Note) (found : List FoundLoop) (m : ℕ) (shape : Shape) → IsShape (resolved cs) m shape → HasNumbers cs notes found m shape → IsLeftWith (resolved cs) m []
+  one_entry : (cs : List ClassFile) (notes : List Note) (found : List FoundLoop) (m : ℕ) (shape : Shape) → IsShape (resolved cs) m shape → HasLoopNumbers cs notes found m shape → IsLeftWith (resolved cs) m []
   one_entry cs notes found m (Irreducible nodes) is none = absurd none
   one_entry cs notes found m (Reducible places) is numbers = is.0
 
-  has_number : (cs : List ClassFile) (notes : List Note) (found : List FoundLoop) (m p : ℕ) (shape : Shape) → IsShape (resolved cs) m shape → HasNumbers cs notes found m shape → (g : Digraph)
+  has_number : (cs : List ClassFile) (notes : List Note) (found : List FoundLoop) (m p : ℕ) (shape : Shape) → IsShape (resolved cs) m shape → HasLoopNumbers cs notes found m shape → (g : Digraph)
       → IsGraphOf (resolved cs) m g → IsHeader g (2 * p) → IsSome (written_of cs notes found m p)
   has_number cs notes found m p (Irreducible nodes) is none g graph header = absurd none
   has_number cs notes found m p (Reducible places) is numbers g graph header = numbers p ((is.1.each p).1 (record { graph = g; is_graph = graph; header = header }))

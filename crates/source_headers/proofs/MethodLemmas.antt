@@ -10,7 +10,7 @@ use Rattle.class_pool.specs.declared.class.ClassFile.{ClassFile}
 use Rattle.class_rules.specs.Found.{MethodsHaveCode}
 use Rattle.bytecode_model.specs.Program.{body_of}
 use Rattle.program_tables.specs.Laws.{MethodsStandByNumber}
-use Rattle.program_tables.specs.Resolved.{resolved}
+use Rattle.program_tables.specs.Resolved.{resolved, method_name}
 use Rattle.program_tables.specs.Resolving.{IsResolved}
 use Rattle.compact_walks.specs.Laws.{GraphsAreMoved, PartsAreSound, EndsAreOne}
 use Rattle.ascii_text.specs.Line.{lines_of}
@@ -27,7 +27,6 @@ use Rattle.answer_lines.specs.LoopLine.{is_nameable}
 use Rattle.source_headers.specs.Headers.{header_at, header_lines, written, named_lines, unnamed_line, unnamed_lines, IsMethodText}
 use Rattle.source_headers.specs.Reading.{bound_written}
 use Rattle.source_headers.specs.Straying.{MayBeBounded, IsHeaderAt}
-use Rattle.source_headers.specs.Files.{name_of}
 use Rattle.source_headers.specs.Laws.{written_of}
 use Rattle.source_headers.specs.Whole.{IsWritten}
 use Rattle.source_headers.proofs.ToldLemmas.{not_both, all_headed}
@@ -70,58 +69,58 @@ onto_more (Some x) xs ys = refl
 module _ (cs : List ClassFile) (notes : List Note) (found : List FoundLoop) (m : ℕ) where
   -- ---- a method whose loops have one entry each, and that can be named
 
-  places_given : is_nameable (name_of cs m) ≡ true → (ps : List ℕ) → ((p : ℕ) → Contains ps p → IsReadable notes (name_of cs m) (header_at cs found m p))
+  places_given : is_nameable (method_name cs m) ≡ true → (ps : List ℕ) → ((p : ℕ) → Contains ps p → IsReadable notes (method_name cs m) (header_at cs found m p))
       → (rest : List ℕ) (bs : List LoopBound) → Give (lines_of rest) bs
-      → Give (lines_of (flat_map (λ p. header_lines notes (name_of cs m) (header_at cs found m p)) ps ++ rest))
-      (filter_map (λ p. bound_written notes (name_of cs m) (header_at cs found m p)) ps ++ bs)
+      → Give (lines_of (flat_map (λ p. header_lines notes (method_name cs m) (header_at cs found m p)) ps ++ rest))
+      (filter_map (λ p. bound_written notes (method_name cs m) (header_at cs found m p)) ps ++ bs)
   places_given nameable [] range rest bs more = more
   places_given nameable (p ∷ ps) range rest bs more =
-      let F : ℕ → List ℕ = λ p. header_lines notes (name_of cs m) (header_at cs found m p) in
-      let B : ℕ → Option LoopBound = λ p. bound_written notes (name_of cs m) (header_at cs found m p) in
+      let F : ℕ → List ℕ = λ p. header_lines notes (method_name cs m) (header_at cs found m p) in
+      let B : ℕ → Option LoopBound = λ p. bound_written notes (method_name cs m) (header_at cs found m p) in
       let later = places_given nameable ps (λ q c. range q (in_tail p q ps c)) rest bs more in
-      let here = header_given notes (name_of cs m) (header_at cs found m p) (flat_map F ps ++ rest) (filter_map B ps ++ bs) nameable (range p (at_head p ps)) later in
+      let here = header_given notes (method_name cs m) (header_at cs found m p) (flat_map F ps ++ rest) (filter_map B ps ++ bs) nameable (range p (at_head p ps)) later in
       subst (λ (text : List ℕ). Give (lines_of text) (cons_option (B p) (filter_map B ps) ++ bs)) (sym (append_assoc (F p) (flat_map F ps) rest))
       (subst (λ (xs : List LoopBound). Give (lines_of (F p ++ (flat_map F ps ++ rest))) xs) (sym (onto_more (B p) (filter_map B ps) bs)) here)
 
-  module _ (nameable : is_nameable (name_of cs m) ≡ true) (places : List ℕ) (headed : (p : ℕ) → Contains places p ↔ IsHeaderAt (resolved cs) m p) where
-    written_is : (p : ℕ) → written_of cs notes found m p ≡ written notes (name_of cs m) (header_at cs found m p)
-    written_is p = ap (λ (b : Bool). if b then written notes (name_of cs m) (header_at cs found m p) else None) nameable
+  module _ (nameable : is_nameable (method_name cs m) ≡ true) (places : List ℕ) (headed : (p : ℕ) → Contains places p ↔ IsHeaderAt (resolved cs) m p) where
+    written_is : (p : ℕ) → written_of cs notes found m p ≡ written notes (method_name cs m) (header_at cs found m p)
+    written_is p = ap (λ (b : Bool). if b then written notes (method_name cs m) (header_at cs found m p) else None) nameable
 
-    to_written : (b : LoopBound) → Contains (filter_map (λ p. bound_written notes (name_of cs m) (header_at cs found m p)) places) b → IsWritten cs notes found m b
+    to_written : (b : LoopBound) → Contains (filter_map (λ p. bound_written notes (method_name cs m) (header_at cs found m p)) places) b → IsWritten cs notes found m b
     to_written b c =
-        let r = (mapped_contains (λ p. bound_written notes (name_of cs m) (header_at cs found m p)) places b).0 c in
-        let w = map_some (λ (n : ℕ). record { name = name_of cs m; pc = r.0; bound = n }) (written notes (name_of cs m) (header_at cs found m r.0)) b r.2 in
-        let at : IsWritten cs notes found m (record { name = name_of cs m; pc = r.0; bound = w.0 }) = record { header = (headed r.0).0 r.1; name = refl; number = written_is r.0 ∙ w.1 } in
+        let r = (mapped_contains (λ p. bound_written notes (method_name cs m) (header_at cs found m p)) places b).0 c in
+        let w = map_some (λ (n : ℕ). record { name = method_name cs m; pc = r.0; bound = n }) (written notes (method_name cs m) (header_at cs found m r.0)) b r.2 in
+        let at : IsWritten cs notes found m (record { name = method_name cs m; pc = r.0; bound = w.0 }) = record { header = (headed r.0).0 r.1; name = refl; number = written_is r.0 ∙ w.1 } in
         subst (IsWritten cs notes found m) w.2 at
 
-    from_written : (b : LoopBound) → IsWritten cs notes found m b → Contains (filter_map (λ p. bound_written notes (name_of cs m) (header_at cs found m p)) places) b
+    from_written : (b : LoopBound) → IsWritten cs notes found m b → Contains (filter_map (λ p. bound_written notes (method_name cs m) (header_at cs found m p)) places) b
     from_written b is =
-        let number : written notes (name_of cs m) (header_at cs found m b.pc) ≡ Some b.bound = sym (written_is b.pc) ∙ is.number in
-        let bound : bound_written notes (name_of cs m) (header_at cs found m b.pc) ≡ Some b =
-        ap (option_map (λ (n : ℕ). record { name = name_of cs m; pc = b.pc; bound = n })) number ∙ ap (λ (name : List ℕ). Some (record { name = name; pc = b.pc; bound = b.bound })) (sym is.name) in
-        (mapped_contains (λ p. bound_written notes (name_of cs m) (header_at cs found m p)) places b).1 (b.pc, (headed b.pc).1 is.header, bound)
+        let number : written notes (method_name cs m) (header_at cs found m b.pc) ≡ Some b.bound = sym (written_is b.pc) ∙ is.number in
+        let bound : bound_written notes (method_name cs m) (header_at cs found m b.pc) ≡ Some b =
+        ap (option_map (λ (n : ℕ). record { name = method_name cs m; pc = b.pc; bound = n })) number ∙ ap (λ (name : List ℕ). Some (record { name = name; pc = b.pc; bound = b.bound })) (sym is.name) in
+        (mapped_contains (λ p. bound_written notes (method_name cs m) (header_at cs found m p)) places b).1 (b.pc, (headed b.pc).1 is.header, bound)
 
-    at_place : (p : ℕ) (b : LoopBound) → bound_written notes (name_of cs m) (header_at cs found m p) ≡ Some b → b.pc ≡ p
+    at_place : (p : ℕ) (b : LoopBound) → bound_written notes (method_name cs m) (header_at cs found m p) ≡ Some b → b.pc ≡ p
     at_place p b h =
-        let w = map_some (λ (n : ℕ). record { name = name_of cs m; pc = p; bound = n }) (written notes (name_of cs m) (header_at cs found m p)) b h in
+        let w = map_some (λ (n : ℕ). record { name = method_name cs m; pc = p; bound = n }) (written notes (method_name cs m) (header_at cs found m p)) b h in
         sym (ap (λ (x : LoopBound). x.pc) w.2)
 
-    named : IsStrictlyIncreasing places → ((p : ℕ) → Contains places p → IsReadable notes (name_of cs m) (header_at cs found m p))
-        → MethodGives cs notes found m (flat_map (λ p. header_lines notes (name_of cs m) (header_at cs found m p)) places)
+    named : IsStrictlyIncreasing places → ((p : ℕ) → Contains places p → IsReadable notes (method_name cs m) (header_at cs found m p))
+        → MethodGives cs notes found m (flat_map (λ p. header_lines notes (method_name cs m) (header_at cs found m p)) places)
     named rising range = record {
-      bounds = filter_map (λ p. bound_written notes (name_of cs m) (header_at cs found m p)) places;
+      bounds = filter_map (λ p. bound_written notes (method_name cs m) (header_at cs found m p)) places;
       given = places_given nameable places range;
       each = λ b. (to_written b, from_written b);
-      different = rising_different (λ p. bound_written notes (name_of cs m) (header_at cs found m p)) at_place places (places_past places rising);
+      different = rising_different (λ p. bound_written notes (method_name cs m) (header_at cs found m p)) at_place places (places_past places rising);
     }
 
   -- ---- one that can't be named
 
-  not_written : is_nameable (name_of cs m) ≡ false → (b : LoopBound) → IsWritten cs notes found m b → ⊥
+  not_written : is_nameable (method_name cs m) ≡ false → (b : LoopBound) → IsWritten cs notes found m b → ⊥
   not_written unnamed b is =
-      none≢some b.bound (sym (ap (λ (t : Bool). if t then written notes (name_of cs m) (header_at cs found m b.pc) else None) unnamed) ∙ is.number)
+      none≢some b.bound (sym (ap (λ (t : Bool). if t then written notes (method_name cs m) (header_at cs found m b.pc) else None) unnamed) ∙ is.number)
 
-  unnamed_case : (shape : Shape) → is_nameable (name_of cs m) ≡ false → MethodGives cs notes found m (unnamed_lines m shape)
+  unnamed_case : (shape : Shape) → is_nameable (method_name cs m) ≡ false → MethodGives cs notes found m (unnamed_lines m shape)
   unnamed_case (Irreducible nodes) unnamed = silent cs notes found m (unnamed_line m) (unnamed_given m) (not_written unnamed)
   unnamed_case (Reducible places) unnamed = silent cs notes found m (unnamed_lines m (Reducible places)) (by places.items) (not_written unnamed)
     where
@@ -133,24 +132,24 @@ module _ (cs : List ClassFile) (notes : List Note) (found : List FoundLoop) (m :
 
 module _ (moves : GraphsAreMoved) (sound : PartsAreSound) (ends : EndsAreOne) (one : GraphsAreOne) (have : MethodsHaveCode) (by_number : MethodsStandByNumber) (cs : List ClassFile) (r : IsResolved cs)
     (lines : List ℕ) (notes : List Note) (found : List FoundLoop) (read : AreNotesRead lines notes) (small : AreFoundSmall found) (m : ℕ) where
-  named_case : (shape : Shape) → IsShape (resolved cs) m shape → MayBeBounded (resolved cs) m → is_nameable (name_of cs m) ≡ true → MethodGives cs notes found m (named_lines cs notes found m (name_of cs m) shape)
+  named_case : (shape : Shape) → IsShape (resolved cs) m shape → MayBeBounded (resolved cs) m → is_nameable (method_name cs m) ≡ true → MethodGives cs notes found m (named_lines cs notes found m (method_name cs m) shape)
   named_case (Irreducible nodes) is bounded nameable =
-      silent cs notes found m _ (λ rest bs more. irreducible_given (name_of cs m) nodes.items rest bs nameable more)
+      silent cs notes found m _ (λ rest bs more. irreducible_given (method_name cs m) nodes.items rest bs nameable more)
       (λ b w. not_both moves sound ends one (resolved cs) m nodes.items is.0 is.1 w.header.single)
   named_case (Reducible places) is bounded nameable =
       named cs notes found m nameable places.items
       (λ p. (
         λ c. record { bounded = bounded; places = places.items; single = is.0; are = is.1; among = c },
         all_headed moves sound ends one (resolved cs) m (Reducible places) is p,
-      )) is.1.rising (readable have by_number cs r lines notes found read small m (Reducible places) is (name_of cs m))
+      )) is.1.rising (readable have by_number cs r lines notes found read small m (Reducible places) is (method_name cs m))
 
-  by_name : (shape : Shape) → IsShape (resolved cs) m shape → MayBeBounded (resolved cs) m → (t : Bool) → is_nameable (name_of cs m) ≡ t
-      → MethodGives cs notes found m (if t then named_lines cs notes found m (name_of cs m) shape else unnamed_lines m shape)
+  by_name : (shape : Shape) → IsShape (resolved cs) m shape → MayBeBounded (resolved cs) m → (t : Bool) → is_nameable (method_name cs m) ≡ t
+      → MethodGives cs notes found m (if t then named_lines cs notes found m (method_name cs m) shape else unnamed_lines m shape)
   by_name shape is bounded true e = named_case shape is bounded e
   by_name shape is bounded false e = unnamed_case cs notes found m shape e
 
-  pub method_given : (text : List ℕ) → IsSome (body_of (resolved cs) m) → IsMethodText (resolved cs) cs notes found (name_of cs) m text → MethodGives cs notes found m text
+  pub method_given : (text : List ℕ) → IsSome (body_of (resolved cs) m) → IsMethodText (resolved cs) cs notes found (method_name cs) m text → MethodGives cs notes found m text
   method_given text coded (inl boot) =
       subst (MethodGives cs notes found m) (sym boot.1) (silent cs notes found m [] (λ rest bs more. more) (λ b w. w.header.bounded.1 boot.0))
   method_given text coded (inr other) =
-      subst (MethodGives cs notes found m) (sym other.1.2) (by_name other.1.0 other.1.1 (coded, other.0) (is_nameable (name_of cs m)) refl)
+      subst (MethodGives cs notes found m) (sym other.1.2) (by_name other.1.0 other.1.1 (coded, other.0) (is_nameable (method_name cs m)) refl)

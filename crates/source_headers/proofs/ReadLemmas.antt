@@ -11,7 +11,8 @@ use Rattle.lists.specs.Tests.{and_left, and_right, not_true}
 use Rattle.ascii_text.specs.Line.{lines_of, without_empty_last}
 use Rattle.ascii_text.proofs.NumberLemmas.{HasOneSpelling-decimal}
 use Rattle.loop_bounds.specs.Bounds.{LoopBound}
-use Rattle.loop_bounds.specs.Grammar.{IsNumber, IsSilent, Says, Give}
+use Rattle.loop_bounds.specs.Grammar.{SaysLoopBound, Give}
+use Rattle.loop_bounds.specs.Lines.{IsNumber, IsSilent}
 use Rattle.answer_lines.specs.LoopLine.{is_nameable}
 use Rattle.source_bounds.specs.Notes.{Note}
 use Rattle.source_bounds.specs.Unbroken.{is_unbroken}
@@ -151,7 +152,7 @@ silent_front : (name rest : List ℕ) → 0 < length name → IsSilent (name ++ 
 silent_front [] rest h s = absurd (omega (arith, h))
 silent_front (c ∷ name) rest h s = s
 
-bound_says : (name : List ℕ) (place n : ℕ) → is_nameable name ≡ true → place < 2 ^ 32 → n < 2 ^ 32 → Says (bound_words name place n) (record { name = name; pc = place; bound = n } ∷ [])
+bound_says : (name : List ℕ) (place n : ℕ) → is_nameable name ≡ true → place < 2 ^ 32 → n < 2 ^ 32 → SaysLoopBound (bound_words name place n) (record { name = name; pc = place; bound = n } ∷ [])
 unfolding bound_words
 bound_says name place n nameable small low =
     let named = named_parts name nameable in

@@ -2,7 +2,7 @@
 use Rattle.std.specs.Prelude.{◌≡◌, ◌↔◌, ◌⊎◌, ℕ, ◌<◌, ◌++◌, List, length, Contains, Option, Some, slice_get}
 use Rattle.std.specs.List.{concat}
 use Rattle.class_pool.specs.declared.class.ClassFile.{ClassFile}
-use Rattle.program_tables.specs.Resolved.{resolved}
+use Rattle.program_tables.specs.Resolved.{resolved, method_name}
 use Rattle.loop_rules.specs.declared.found.FoundLoop.{FoundLoop}
 use Rattle.source_bounds.specs.Notes.{Subject, AtLine, AtPlace, Note}
 use Rattle.method_sources.specs.declared.sources.MethodSource.{MethodSource}
@@ -11,7 +11,6 @@ use Rattle.source_headers.specs.declared.gathering.Gathered.{Gathered}
 use Rattle.method_sources.specs.Sources.{file_of, source_at, IsFileOf}
 use Rattle.source_headers.specs.Headers.{IsMethodText}
 use Rattle.source_headers.specs.Straying.{MayBeBounded, IsHeaderAt}
-use Rattle.source_headers.specs.Files.{name_of}
 use Rattle.source_headers.specs.Known.{KnownSites, IsWith, LacksSite}
 use Rattle.method_sources.specs.Told.{source_by}
 use Rattle.source_headers.specs.Told.{headed_places, lines_by}
@@ -20,11 +19,11 @@ use Rattle.source_headers.specs.Told.{headed_places, lines_by}
 
 -- it may have bounds, and the name
 abbrev pub IsNameOf : List ClassFile → (method : ℕ) → (name : List ℕ) → Type 0
-IsNameOf cs m name = MayBeBounded (resolved cs) m × (name_of cs m ≡ name)
+IsNameOf cs m name = MayBeBounded (resolved cs) m × (method_name cs m ≡ name)
 
 -- its name, and a place where it heads a loop
 abbrev pub IsPlaceOf : List ClassFile → (method : ℕ) → (site : List ℕ × ℕ) → Type 0
-IsPlaceOf cs m s = IsHeaderAt (resolved cs) m s.1 × (name_of cs m ≡ s.0)
+IsPlaceOf cs m s = IsHeaderAt (resolved cs) m s.1 × (method_name cs m ≡ s.0)
 
 -- a line of a file at which it heads a loop
 abbrev pub IsLineOf : List ClassFile → (method : ℕ) → (site : List ℕ × ℕ) → Type 0
@@ -48,7 +47,7 @@ AreFiles cs files = (file : List ℕ) → Contains files file ↔ IsFileOf cs fi
 pub record AreGathered (cs : List ClassFile) (notes : List Note) (found : List FoundLoop) (n : ℕ) (g : Gathered) : Type 0 where
   pub texts : List (List ℕ)
   pub count : length texts ≡ n
-  pub each : (m : ℕ) (text : List ℕ) → slice_get texts m ≡ Some text → IsMethodText (resolved cs) cs notes found (name_of cs) m text
+  pub each : (m : ℕ) (text : List ℕ) → slice_get texts m ≡ Some text → IsMethodText (resolved cs) cs notes found (method_name cs) m text
   pub text_is : g.text.items ≡ concat texts
   pub names : AreBelow (IsNameOf cs) n g.methods.names
   pub places : AreBelow (IsPlaceOf cs) n g.methods.sites

@@ -1,7 +1,7 @@
 -- What follows of the text of a program's headers.
 use Rattle.std.specs.Prelude.{◌↔◌, ℕ, List, Contains, None, IsSome, IsTrue, if◌then◌else◌}
 use Rattle.class_pool.specs.declared.class.ClassFile.{ClassFile}
-use Rattle.program_tables.specs.Resolved.{resolved}
+use Rattle.program_tables.specs.Resolved.{resolved, method_name}
 use Rattle.method_flow.specs.Keeping.{BoundOf, WalkKeeps}
 use Rattle.method_flow.specs.Regions.{IsWithin}
 use Rattle.loop_rules.specs.declared.found.FoundLoop.{FoundLoop}
@@ -14,18 +14,18 @@ use Rattle.answer_lines.specs.LoopLine.{is_nameable}
 use Rattle.method_sources.specs.Sources.{source_at}
 use Rattle.source_headers.specs.Headers.{found_at, header_at, said_of_line, written}
 use Rattle.source_headers.specs.Straying.{MayBeBounded}
-use Rattle.source_headers.specs.Files.{name_of, AreMethodTexts}
+use Rattle.source_headers.specs.Files.{AreMethodTexts}
 
 -- the number that is written for the loop with the header at a place of a method that isn't the one that is run first
 abbrev pub written_of : List ClassFile → List Note → List FoundLoop → BoundOf
-written_of cs notes found m p = if is_nameable (name_of cs m) then written notes (name_of cs m) (header_at cs found m p) else None
+written_of cs notes found m p = if is_nameable (method_name cs m) then written notes (method_name cs m) (header_at cs found m p) else None
 
 -- ---- the loops that have numbers
 
 -- no remark stands in place of numbers: each loop has one entry and a number
-abbrev pub HasNumbers : List ClassFile → List Note → List FoundLoop → (method : ℕ) → Shape → Type 0
-HasNumbers cs notes found m (Irreducible nodes) = ⊥
-HasNumbers cs notes found m (Reducible places) = (p : ℕ) → Contains places.items p → IsSome (written_of cs notes found m p)
+abbrev pub HasLoopNumbers : List ClassFile → List Note → List FoundLoop → (method : ℕ) → Shape → Type 0
+HasLoopNumbers cs notes found m (Irreducible nodes) = ⊥
+HasLoopNumbers cs notes found m (Reducible places) = (p : ℕ) → Contains places.items p → IsSome (written_of cs notes found m p)
 
 -- By the texts of methods: where the method that is run first isn't among those that may run while the root does, each loop of these is bounded by what is
 -- written, and has one entry, exactly where no remark on them stands in place of numbers.
@@ -34,7 +34,7 @@ HeaderFilesHaveLines =
     (cs : List ClassFile) (notes : List Note) (found : List FoundLoop) (texts : List (List ℕ)) → AreMethodTexts cs notes found texts → (root : ℕ)
     → ((m : ℕ) → IsWithin (resolved cs) root m → MayBeBounded (resolved cs) m)
     → (AreReducible (resolved cs) root × HaveLines (resolved cs) (written_of cs notes found) root)
-    ↔ ((m : ℕ) → IsWithin (resolved cs) root m → (shape : Shape) → IsShape (resolved cs) m shape → HasNumbers cs notes found m shape)
+    ↔ ((m : ℕ) → IsWithin (resolved cs) root m → (shape : Shape) → IsShape (resolved cs) m shape → HasLoopNumbers cs notes found m shape)
 
 -- ---- runs that keep the numbers
 
@@ -44,7 +44,7 @@ line_bound cs notes m p = said_of_line notes (source_at cs m p)
 
 -- what is said of the place itself
 abbrev pub place_bound : List ClassFile → List Note → BoundOf
-place_bound cs notes m p = bound_in (AtPlace (name_of cs m) p) notes
+place_bound cs notes m p = bound_in (AtPlace (method_name cs m) p) notes
 
 -- the walk keeps what is found, and what is said of lines and of places
 pub record KeepsAll (cs : List ClassFile) (notes : List Note) (found : List FoundLoop) (m : ℕ) (ns : List ℕ) : Type 0 where
@@ -61,5 +61,5 @@ KeptNotesAreKept =
 -- and a walk of a method that can be named which keeps what is written keeps these
 abbrev pub WrittenKeepsNotes : Type 0
 WrittenKeepsNotes =
-    (cs : List ClassFile) (notes : List Note) (found : List FoundLoop) (m : ℕ) (ns : List ℕ) → IsTrue (is_nameable (name_of cs m))
+    (cs : List ClassFile) (notes : List Note) (found : List FoundLoop) (m : ℕ) (ns : List ℕ) → IsTrue (is_nameable (method_name cs m))
     → WalkKeeps (resolved cs) (written_of cs notes found) m ns → KeepsAll cs notes found m ns

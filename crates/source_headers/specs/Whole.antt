@@ -3,7 +3,7 @@ use Rattle.std.specs.Prelude.{◌≡◌, ◌↔◌, ◌⊎◌, ℕ, ℤ, List, C
 use Rattle.lists.specs.Lists.{onto}
 use Rattle.class_pool.specs.declared.class.ClassFile.{ClassFile}
 use Rattle.bytecode_model.specs.Program.{body_of}
-use Rattle.program_tables.specs.Resolved.{resolved}
+use Rattle.program_tables.specs.Resolved.{resolved, method_name}
 use Rattle.program_tables.specs.Resolving.{IsResolved}
 use Rattle.method_flow.specs.Keeping.{BoundOf, WalkKeeps}
 use Rattle.method_flow.specs.Regions.{IsWithin}
@@ -17,22 +17,22 @@ use Rattle.bound_rules.specs.Bounding.{AreReducible, HaveLines}
 use Rattle.bound_causes.specs.Shapes.{IsShape}
 use Rattle.bound_causes.specs.declared.shapes.Shape.{Shape}
 use Rattle.source_headers.specs.Straying.{MayBeBounded, IsHeaderAt}
-use Rattle.source_headers.specs.Files.{name_of, IsHeaderFile}
-use Rattle.source_headers.specs.Laws.{written_of, HasNumbers, line_bound, place_bound, KeepsAll}
+use Rattle.source_headers.specs.Files.{IsHeaderFile}
+use Rattle.source_headers.specs.Laws.{written_of, HasLoopNumbers, line_bound, place_bound, KeepsAll}
 
 -- ---- what is read
 
 -- the bound is the number that is written for a loop of the method, by the method's name and the place of the header
 pub record IsWritten (cs : List ClassFile) (notes : List Note) (found : List FoundLoop) (m : ℕ) (b : LoopBound) : Type 0 where
   pub header : IsHeaderAt (resolved cs) m b.pc
-  pub name : b.name ≡ name_of cs m
+  pub name : b.name ≡ method_name cs m
   pub number : written_of cs notes found m b.pc ≡ Some b.bound
 
 -- The text is read whole, and each header has the bound that is written for it, or none where no number is; there are no other bounds.
 pub record GivesWritten (cs : List ClassFile) (notes : List Note) (found : List FoundLoop) (text : List ℕ) : Type 0 where
   pub bounds : List LoopBound
   pub read : IsRead text bounds
-  pub headers : (m p : ℕ) → IsHeaderAt (resolved cs) m p → bound_in (name_of cs m) p bounds ≡ written_of cs notes found m p
+  pub headers : (m p : ℕ) → IsHeaderAt (resolved cs) m p → bound_in (method_name cs m) p bounds ≡ written_of cs notes found m p
   pub others : (b : LoopBound) → Contains bounds b → (m : ℕ) × IsWritten cs notes found m b
 
 -- the text of the headers of resolved classes gives just the numbers that are written
@@ -43,7 +43,7 @@ HeaderFilesAreRead = (cs : List ClassFile) (lines text : List ℕ) → IsResolve
 
 -- the bounds of the loops of methods with code, by the methods' names
 abbrev pub bounds_by : List ClassFile → List LoopBound → BoundOf
-bounds_by cs bounds m p = onto (body_of (resolved cs) m) (λ b. bound_in (name_of cs m) p bounds)
+bounds_by cs bounds m p = onto (body_of (resolved cs) m) (λ b. bound_in (method_name cs m) p bounds)
 
 -- each header has the bound that is written for it, or none where no number is, and nothing else has one
 pub record BoundsWritten (cs : List ClassFile) (notes : List Note) (found : List FoundLoop) (bound_of : BoundOf) : Type 0 where
@@ -73,7 +73,7 @@ RootsHaveLines =
     (cs : List ClassFile) (lines text : List ℕ) → IsResolved cs → (h : IsHeaderFile cs lines text) → (bounds : List LoopBound) → IsRead text bounds → (root : ℕ)
     → ((m : ℕ) → IsWithin (resolved cs) root m → MayBeBounded (resolved cs) m)
     → (AreReducible (resolved cs) root × HaveLines (resolved cs) (bounds_by cs bounds) root)
-    ↔ ((m : ℕ) → IsWithin (resolved cs) root m → (shape : Shape) → IsShape (resolved cs) m shape → HasNumbers cs h.notes h.found m shape)
+    ↔ ((m : ℕ) → IsWithin (resolved cs) root m → (shape : Shape) → IsShape (resolved cs) m shape → HasLoopNumbers cs h.notes h.found m shape)
 
 -- a walk that keeps what is found, and what is said of lines and of places, keeps the bounds that the text is read as
 abbrev pub KeptNotesKeepTheFile : Type 0

@@ -2,9 +2,8 @@
 ghost use Rattle.std.specs.Prelude.{◌≡◌, ℕ, List, length, Contains, Some, OnOk, IfOk, slice_get};
 ghost use Rattle.std.specs.List.Sorted.{IsStrictlyIncreasing};
 ghost use Rattle.method_flow.specs.Flow.{Coded, IsFlowOf};
-ghost use Rattle.program_tables.specs.Resolved.{resolved};
+ghost use Rattle.program_tables.specs.Resolved.{resolved, method_name};
 ghost use Rattle.loop_finder.specs.Headers.{AreMethodHeaders};
-ghost use Rattle.source_headers.specs.Files.{name_of};
 ghost use Rattle.source_headers.specs.Found.{AreRising};
 ghost use Rattle.source_headers.specs.Gathered.{AddsLines, AddsMethod, AreFiles, AreGathered};
 ghost use Rattle.source_headers.specs.Known.{IsWith};
@@ -105,7 +104,7 @@ fn add_methods(
     gathered: &mut Gathered,
 ) -> Result<(), NoMemory>
     requires flow { IsFlowOf (resolved program.now) flow.now }
-    requires names { (m : ℕ) (k : Coded) → slice_get flow.now.methods m ≡ Some k → k.name ≡ name_of program.now m }
+    requires names { (m : ℕ) (k : Coded) → slice_get flow.now.methods m ≡ Some k → k.name ≡ method_name program.now m }
     requires found { AreRising loops.now.counted.items }
     requires headers { AreMethodHeaders (resolved program.now) (length flow.now.methods) loops.now.headers.items }
     requires none { AreGathered program.now notes.now loops.now.counted.items 0 gathered.old }
@@ -133,7 +132,7 @@ pub(crate) fn gather(
     loops: &ProgramLoops,
 ) -> Result<Gathered, NoMemory>
     requires flow { IsFlowOf (resolved program.now) flow.now }
-    requires names { (m : ℕ) (k : Coded) → slice_get flow.now.methods m ≡ Some k → k.name ≡ name_of program.now m }
+    requires names { (m : ℕ) (k : Coded) → slice_get flow.now.methods m ≡ Some k → k.name ≡ method_name program.now m }
     requires found { AreRising loops.now.counted.items }
     requires headers { AreMethodHeaders (resolved program.now) (length flow.now.methods) loops.now.headers.items }
     ensures { IfOk result (AreGathered program.now notes.now loops.now.counted.items (length flow.now.methods)) }

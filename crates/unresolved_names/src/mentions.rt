@@ -6,7 +6,7 @@ ghost use Rattle.base.specs.Sizes.{longest_file};
 ghost use Rattle.class_pool.specs.Found.{code_of};
 ghost use Rattle.class_lookup.specs.Parts.{signature_of};
 ghost use Rattle.program_tables.specs.Instructions.{placed_at, instructions_in};
-ghost use Rattle.program_tables.specs.Tables.{seen_in, HasBounds};
+ghost use Rattle.program_tables.specs.Tables.{seen_in, HasFileLimits};
 ghost use Rattle.program_tables.specs.Unresolved.{implements_all as implements_each, may_be_made, mentions_in_code, mentions_in_method, FieldDescriptor};
 ghost use Rattle.bytecode_model.specs.Lists.{onto};
 ghost use Rattle.lists.specs.Lists.{first};
@@ -231,7 +231,7 @@ fn first_in_method(
 
 /// The first in the methods of a class.
 fn first_in_methods(alloc: Global, caller: &Caller<'_>) -> Result<Option<(u32, Why)>, NoMemory>
-    requires bounds { HasBounds caller.now.namer.class.now }
+    requires bounds { HasFileLimits caller.now.namer.class.now }
     ensures { IfOk result (λ found. found ≡ first (flat_map (λ m. flat_map
         (refused_mention caller.now.classes.now caller.now.namer.number caller.now.namer.class.now)
         (mentions_in_method caller.now.namer.class.now m)) caller.now.namer.class.now.methods)) }
@@ -283,7 +283,7 @@ pub fn first_unresolved<'a>(
     requires caller { caller < length classes.now }
     requires own { slice_get classes.now caller ≡ Some class.now }
     requires texts { texts.now ≡ classes.now }
-    requires bounds { HasBounds class.now }
+    requires bounds { HasFileLimits class.now }
     requires implements { implements_all ≡ implements_each classes.now caller }
     ensures { IfOk result (λ found. found ≡ first (unresolved_mentions classes.now caller class.now)) }
 {

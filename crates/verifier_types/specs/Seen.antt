@@ -49,7 +49,7 @@ width_seen widths.Zero = rows.Zero
 width_seen widths.One = rows.One
 width_seen widths.Two = rows.Two
 
-abbrev pub form_seen : Form → rows.Form
+abbrev pub form_seen : Form → rows.StackForm
 form_seen forms.Drop = rows.Drop
 form_seen forms.Copy = rows.Copy
 form_seen forms.Swap = rows.Swap

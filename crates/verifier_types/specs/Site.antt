@@ -56,5 +56,5 @@ abbrev pub ChecksIn : List (List typing.VarType) → Site → Row → (old : Typ
 ChecksIn ls s row old checked new = ChecksOver ls ls s row old checked new
 
 -- the same whatever the lists are
-abbrev pub Checks : Site → Row → (old : TypeFrame) → Checked → (new : TypeFrame) → Type 0
-Checks s row old checked new = (ls : List (List typing.VarType)) → ChecksIn ls s row old checked new
+abbrev pub ChecksSite : Site → Row → (old : TypeFrame) → Checked → (new : TypeFrame) → Type 0
+ChecksSite s row old checked new = (ls : List (List typing.VarType)) → ChecksIn ls s row old checked new

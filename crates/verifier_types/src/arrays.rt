@@ -5,7 +5,7 @@ ghost use Rattle.bytecode_model.specs.Types.{Kind, OfNumbers, OfReferences, elem
 ghost use Rattle.bytecode_typing.specs.Checks.{same_number, is_array_type, is_array_type_of, component_type};
 ghost use Rattle.program_tables.specs.Tables.{kind_seen};
 ghost use Rattle.verifier_types.specs.Seen.{number_seen, type_seen};
-ghost use Rattle.verifier_types.specs.Site.{Site, Checks};
+ghost use Rattle.verifier_types.specs.Site.{Site, ChecksSite};
 
 use crate::checked::{Checked, GOES, Rule, uses};
 use crate::frame::TypeFrame;
@@ -71,8 +71,9 @@ fn component(item: VarType) -> Option<VarType>
 
 /// `newarray` and `anewarray`: an array of this kind is made.
 pub fn check_new_array(frame: &mut TypeFrame, kind: ObjectKind) -> Result<Checked, NoMemory>
-    ensures numbers { IfOk result (λ c. (s : Site) (code : ℕ) → kind_seen kind ≡ OfNumbers code → Checks s (rows.NewNumbers code) frame.old c frame.new) }
-    ensures references { IfOk result (λ c. (s : Site) (k : Kind) → kind_seen kind ≡ OfReferences k → Checks s (rows.NewReferences k) frame.old c frame.new) }
+    ensures numbers { IfOk result (λ c. (s : Site) (code : ℕ) → kind_seen kind ≡ OfNumbers code → ChecksSite s (rows.NewNumbers code) frame.old c frame.new) }
+    ensures references { IfOk result (λ c. (s : Site) (k : Kind) → kind_seen kind ≡ OfReferences k
+        → ChecksSite s (rows.NewReferences k) frame.old c frame.new) }
 {
     if !frame.operands.pop_numbers(&[NumberType::Int]) {
         return Ok(Checked::Fails(Rule::Stack));
@@ -83,7 +84,7 @@ pub fn check_new_array(frame: &mut TypeFrame, kind: ObjectKind) -> Result<Checke
 
 /// `arraylength`.
 pub fn check_length(frame: &mut TypeFrame) -> Result<Checked, NoMemory>
-    ensures { IfOk result (λ c. (s : Site) → Checks s rows.Length frame.old c frame.new) }
+    ensures { IfOk result (λ c. (s : Site) → ChecksSite s rows.Length frame.old c frame.new) }
 {
     match frame.operands.pop() {
         Some(item) if is_array(item) => {
@@ -100,7 +101,7 @@ pub fn check_load_number(
     number: NumberType,
     codes: &[u8],
 ) -> Result<Checked, NoMemory>
-    ensures { IfOk result (λ c. (s : Site) → Checks s (rows.LoadNumber (number_seen number) codes.now) frame.old c frame.new) }
+    ensures { IfOk result (λ c. (s : Site) → ChecksSite s (rows.LoadNumber (number_seen number) codes.now) frame.old c frame.new) }
 {
     if !frame.operands.pop_numbers(&[NumberType::Int]) {
         return Ok(Checked::Fails(Rule::Stack));
@@ -116,7 +117,7 @@ pub fn check_load_number(
 
 /// A number is stored into an array of one of these codes.
 pub fn check_store_number(frame: &mut TypeFrame, number: NumberType, codes: &[u8]) -> Checked
-    ensures { (s : Site) (kept : ℤ → ℤ) → Checks s (rows.StoreNumber (number_seen number) codes.now kept) frame.old result frame.new }
+    ensures { (s : Site) (kept : ℤ → ℤ) → ChecksSite s (rows.StoreNumber (number_seen number) codes.now kept) frame.old result frame.new }
 {
     if !frame.operands.pop_numbers(&[number, NumberType::Int]) {
         return Checked::Fails(Rule::Stack);
@@ -129,7 +130,7 @@ pub fn check_store_number(frame: &mut TypeFrame, number: NumberType, codes: &[u8
 
 /// `aaload`.
 pub fn check_load_reference(frame: &mut TypeFrame) -> Result<Checked, NoMemory>
-    ensures { IfOk result (λ c. (s : Site) → Checks s rows.LoadReference frame.old c frame.new) }
+    ensures { IfOk result (λ c. (s : Site) → ChecksSite s rows.LoadReference frame.old c frame.new) }
 {
     if !frame.operands.pop_numbers(&[NumberType::Int]) {
         return Ok(Checked::Fails(Rule::Stack));
@@ -149,7 +150,7 @@ pub fn check_load_reference(frame: &mut TypeFrame) -> Result<Checked, NoMemory>
 
 /// `aastore`.
 pub fn check_store_reference(frame: &mut TypeFrame) -> Checked
-    ensures { (s : Site) → Checks s rows.StoreReference frame.old result frame.new }
+    ensures { (s : Site) → ChecksSite s rows.StoreReference frame.old result frame.new }
 {
     let stored = match frame.operands.pop_reference() {
         Some(item) => item,

@@ -2,7 +2,7 @@
 ghost use Rattle.std.specs.Prelude.{◌≡◌, IfOk};
 ghost use Rattle.bytecode_model.specs.Rows as rows;
 ghost use Rattle.program_tables.specs.Tables.{kind_seen};
-ghost use Rattle.verifier_types.specs.Site.{Site, Checks};
+ghost use Rattle.verifier_types.specs.Site.{Site, ChecksSite};
 
 use crate::checked::{Checked, Rule, uses};
 use crate::frame::TypeFrame;
@@ -12,7 +12,7 @@ use program_tables::ObjectKind;
 
 /// `checkcast`.
 pub fn check_cast(frame: &mut TypeFrame, kind: ObjectKind) -> Result<Checked, NoMemory>
-    ensures { IfOk result (λ c. (s : Site) → Checks s (rows.Cast (kind_seen kind)) frame.old c frame.new) }
+    ensures { IfOk result (λ c. (s : Site) → ChecksSite s (rows.Cast (kind_seen kind)) frame.old c frame.new) }
 {
     match frame.operands.pop_reference() {
         Some(item) => {
@@ -25,7 +25,7 @@ pub fn check_cast(frame: &mut TypeFrame, kind: ObjectKind) -> Result<Checked, No
 
 /// `instanceof`.
 pub fn check_test(frame: &mut TypeFrame, kind: ObjectKind) -> Result<Checked, NoMemory>
-    ensures { IfOk result (λ c. (s : Site) → Checks s (rows.Test (kind_seen kind)) frame.old c frame.new) }
+    ensures { IfOk result (λ c. (s : Site) → ChecksSite s (rows.Test (kind_seen kind)) frame.old c frame.new) }
 {
     match frame.operands.pop_reference() {
         Some(item) => {
@@ -38,7 +38,7 @@ pub fn check_test(frame: &mut TypeFrame, kind: ObjectKind) -> Result<Checked, No
 
 /// `monitorenter` and `monitorexit`.
 pub fn check_monitor(frame: &mut TypeFrame) -> Checked
-    ensures { (s : Site) → Checks s rows.Monitor frame.old result frame.new }
+    ensures { (s : Site) → ChecksSite s rows.Monitor frame.old result frame.new }
 {
     match frame.operands.pop_reference() {
         Some(item) => uses(item),

@@ -6,7 +6,7 @@ ghost use Rattle.bytecode_model.specs.Types as model;
 ghost use Rattle.bytecode_typing.specs.Checks.{constant_type};
 ghost use Rattle.verifier_types.specs.Seen.{number_seen, moved_seen, type_seen, width_seen, form_seen};
 ghost use Rattle.verifier_types.specs.Locals.{HasListsOf, lists_seen};
-ghost use Rattle.verifier_types.specs.Site.{Site, Checks, ChecksIn, ChecksOver};
+ghost use Rattle.verifier_types.specs.Site.{Site, ChecksSite, ChecksIn, ChecksOver};
 
 use crate::checked::{Checked, GOES, Rule};
 use crate::frame::TypeFrame;
@@ -17,7 +17,8 @@ use base::NoMemory;
 
 /// A value of this type is put on the stack.
 pub fn check_push(frame: &mut TypeFrame, item: VarType) -> Result<Checked, NoMemory>
-    ensures constant { IfOk result (λ c. (s : Site) (v : Value) → constant_type s.program v ≡ type_seen item → Checks s (rows.Push v) frame.old c frame.new) }
+    ensures constant { IfOk result (λ c. (s : Site) (v : Value) → constant_type s.program v ≡ type_seen item
+        → ChecksSite s (rows.Push v) frame.old c frame.new) }
 {
     frame.operands.push(item)?;
     Ok(GOES)
@@ -30,7 +31,7 @@ pub fn check_compute(
     given: NumberType,
 ) -> Result<Checked, NoMemory>
     ensures { IfOk result (λ c. (s : Site) (compute : rows.FunctionOf (map number_seen taken.now) (Option ℤ))
-        → Checks s (rows.Compute (map number_seen taken.now) (number_seen given) compute) frame.old c frame.new) }
+        → ChecksSite s (rows.Compute (map number_seen taken.now) (number_seen given) compute) frame.old c frame.new) }
 {
     if !frame.operands.pop_numbers(taken) {
         return Ok(Checked::Fails(Rule::Stack));
@@ -118,7 +119,7 @@ pub fn check_shuffle(
     upper: Width,
     lower: Width,
 ) -> Result<Checked, NoMemory>
-    ensures { IfOk result (λ c. (s : Site) → Checks s (rows.Shuffle (form_seen form) (width_seen upper) (width_seen lower)) frame.old c frame.new) }
+    ensures { IfOk result (λ c. (s : Site) → ChecksSite s (rows.Shuffle (form_seen form) (width_seen upper) (width_seen lower)) frame.old c frame.new) }
 {
     if frame.operands.shuffle(form, upper, lower)? {
         Ok(GOES)

@@ -29,7 +29,7 @@ use Rattle.bound_rules.proofs.Owning.{same_own}
 use Rattle.compact_walks.specs.Limited.{cycles_limit, limited, AreSmallAt}
 use Rattle.wcet.specs.declared.known.Known.{Known}
 use Rattle.wcet.specs.declared.prepared.Prepared.{Prepared}
-use Rattle.wcet.specs.Known.{known_at, AreTold, Agrees}
+use Rattle.wcet.specs.Known.{known_at, CalleesAreKnown, Agrees}
 use Rattle.wcet.specs.Telling.{with_back}
 use Rattle.wcet.specs.Prepared.{adds_by, is_without, IsPreparedFor}
 use Rattle.wcet.proofs.Parts.{loop_called_fit}
@@ -39,7 +39,7 @@ use Rattle.wcet.proofs.Valuing.{AreLimitedOf}
 
 -- ---- what is added
 
-module _ (starts : (code : List ℕ) → AreStarts code) (kinds : RowsAreOfTheirKinds) (called : CalledFit) (P : Program) (t : Timing) (m : ℕ) (k : Coded) (c : IsCoded k) (of : IsCodedOf P m k) (table : List Known) (ends : AreTold P t table m)
+module _ (starts : (code : List ℕ) → AreStarts code) (kinds : RowsAreOfTheirKinds) (called : CalledFit) (P : Program) (t : Timing) (m : ℕ) (k : Coded) (c : IsCoded k) (of : IsCodedOf P m k) (table : List Known) (ends : CalleesAreKnown P t table m)
     (N : Numbers) (agrees : (x : ℕ) → MayCall P m x → Agrees P t N x (known_at table x)) where
   -- control stays at instructions
   placed : {u : Node} → IsReached (IsLiveEdge P m) u → IsPlaced k u

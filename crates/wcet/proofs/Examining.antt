@@ -13,7 +13,7 @@ use Rattle.wcet.specs.declared.found.Walked.{Walked}
 use Rattle.wcet.specs.declared.found.Walked.TheVariants.{Never, Shown, Large}
 use Rattle.wcet.specs.declared.known.Known.{Known}
 use Rattle.wcet.specs.declared.prepared.Prepared.{Prepared}
-use Rattle.wcet.specs.Known.{BoundSetting, IsBoundSetting, bounds_in, ForEach, AreTold, IsLimited}
+use Rattle.wcet.specs.Known.{BoundSetting, IsBoundSetting, bounds_in, ForEach, CalleesAreKnown, IsLimited}
 use Rattle.wcet.specs.Prepared.{AreBounds, IsInShape, IsPreparedFor}
 use Rattle.wcet.specs.Found.{IsFitOf, IsFoundOf, IsSectionOf, IsShownBy, IsSmallWalked, IsWalked, ShowsNumber, found_by, known_by, section_by, section_unless}
 use Rattle.wcet.specs.FoundLaws.{KnownIs}
@@ -54,13 +54,13 @@ module _ (m : ℕ) (p : Prepared) (fit : Fit) where
 
 -- what holds of the section for each program holds of it for all of them
 for_each : (set : BoundSetting) (table : List Known) (m : ℕ) (o : Option CertSection) (K : CertSection → Type 0) (L : Program → CertSection → Type 0) → IfSome o K
-    → ForEach set (λ P. AreTold P set.timing table m → IfSome o (L P)) → IfSome o (λ s. K s × ForEach set (λ P. AreTold P set.timing table m → L P s))
+    → ForEach set (λ P. CalleesAreKnown P set.timing table m → IfSome o (L P)) → IfSome o (λ s. K s × ForEach set (λ P. CalleesAreKnown P set.timing table m → L P s))
 for_each set table m None K L k l = tt
 for_each set table m (Some s) K L k l = (k, l)
 
 pub found_of : KnownIs → FoundShows → FoundInText → (set : BoundSetting) (table : List Known) (m : ℕ) (k : Coded) (p : Prepared) (fit : Fit) (walked : Walked) → IsBoundSetting set → slice_get set.flow.methods m ≡ Some k → IsCoded k → m < 2 ^ 32
     → p.shape.size < 2 ^ 32 → All IsLimited table → IsInShape p → p.fits ≡ fit.fits → AreBounds (bounds_in set) m p.shape p.bounds.items
-    → ForEach set (λ P. AreTold P set.timing table m → IsPreparedFor P set.timing (bounds_in set) table m p) → ForEach set (λ P. IsFitOf P set.timing m fit) → IsWalked p walked → IsSmallWalked walked
+    → ForEach set (λ P. CalleesAreKnown P set.timing table m → IsPreparedFor P set.timing (bounds_in set) table m p) → ForEach set (λ P. IsFitOf P set.timing m fit) → IsWalked p walked → IsSmallWalked walked
     → IsFoundOf set table m (found_by m fit walked)
 found_of known_is shows in_text set table m k p fit walked waits at c method size limited in_shape same bounds prepared fits w small = record {
   limited = found_limited m p fit walked w small;

@@ -18,7 +18,7 @@ use Rattle.bound_rules.specs.declared.faults.BoundRefusal.TheVariants.{NoMemory}
 use Rattle.wcet.specs.declared.known.Known.{Known}
 use Rattle.wcet.specs.declared.methods.Methods.{Methods}
 use Rattle.wcet.specs.declared.shape.Shape.{Shape}
-use Rattle.wcet.specs.Known.{BoundSetting, bounds_in, ForEach, unknown, IsLimited, AreTold}
+use Rattle.wcet.specs.Known.{BoundSetting, bounds_in, ForEach, unknown, IsLimited, CalleesAreKnown}
 use Rattle.wcet.specs.Laws.{ReadyHasShape}
 use Rattle.wcet.specs.Methods.{values_by, IsLargeAmong, AreMethodsFound, IsUnready}
 use Rattle.wcet.specs.Prepared.{IsShapeOf, IsLeftBy, IsUnbounded}
@@ -86,7 +86,7 @@ module _ (order : List ℕ) (i : ℕ) (below : i < length order) where
     only_memory fault unready = λ P of ready.
         let behind : AreBehindCalls P order = ready.behind in
         let at = at_place m is in
-        let told : AreTold P st.timing a.table.items m = λ x call. (found.known P of (taken_behind P behind) x (behind i m x at call)).told in
+        let told : CalleesAreKnown P st.timing a.table.items m = λ x call. (found.known P of (taken_behind P behind) x (behind i m x at call)).told in
         let among : Contains order m = (i, below, sym is) in
         let want : fault ≡ NoMemory =
         elim (unready P of told) [

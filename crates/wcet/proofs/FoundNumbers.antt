@@ -21,7 +21,7 @@ use Rattle.wcet.specs.declared.prepared.Prepared.{Prepared}
 use Rattle.wcet.specs.declared.fit.Fit.{Fit}
 use Rattle.wcet.specs.declared.found.Walked.{Walked}
 use Rattle.wcet.specs.declared.found.Walked.TheVariants.{Never, Shown, Large}
-use Rattle.wcet.specs.Known.{unknown, known_at, IsLimited, AreTold, AreNumbersOf, Agrees, HasNumbers}
+use Rattle.wcet.specs.Known.{unknown, known_at, IsLimited, CalleesAreKnown, AreNumbersOf, Agrees, HasNumbers}
 use Rattle.wcet.specs.Prepared.{nest_of, IsInShape, IsPreparedFor}
 use Rattle.wcet.specs.Found.{IsFitOf, IsWalked, found_by}
 use Rattle.wcet.specs.Found.IsFitOf.{fits, exceeds}
@@ -59,7 +59,7 @@ exact_full m fit Never e = refl
 exact_full m fit (Shown n s) e = ap (λ (v : ℕ). Some v) (small_is (n + fit.more) (leb-false cycles_limit (limited (n + fit.more)) e))
 exact_full m fit (Large n) e = absurd (cc)
 
-module _ (laws : AreFoundLaws) (P : Program) (t : Timing) (bound_of : BoundOf) (k : Coded) (table : List Known) (m : ℕ) (p : Prepared) (c : IsCoded k) (of : IsCodedOf P m k) (ends : AreTold P t table m) (shape : IsInShape p)
+module _ (laws : AreFoundLaws) (P : Program) (t : Timing) (bound_of : BoundOf) (k : Coded) (table : List Known) (m : ℕ) (p : Prepared) (c : IsCoded k) (of : IsCodedOf P m k) (ends : CalleesAreKnown P t table m) (shape : IsInShape p)
     (h : IsPreparedFor P t bound_of table m p) (small : OwnAreSmall P t m) (fit : Fit) (same_fits : p.fits ≡ fit.fits) (fit_of : IsFitOf P t m fit) (walked : Walked) (is : IsWalked p walked) (limited_table : All IsLimited table)
     (none : (found_by m fit walked).known.too_large ≡ false) (N : Numbers) (has : (x : ℕ) → MayCall P m x → HasNumbers P t N x (known_at table x)) (has_own : HasNumbers P t N m (found_by m fit walked).known) where
   abbrev known : Known

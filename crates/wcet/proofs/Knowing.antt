@@ -17,7 +17,7 @@ use Rattle.wcet.specs.declared.prepared.Prepared.{Prepared}
 use Rattle.wcet.specs.declared.fit.Fit.{Fit}
 use Rattle.wcet.specs.declared.found.Walked.{Walked}
 use Rattle.wcet.specs.declared.found.Walked.TheVariants.{Never, Shown, Large}
-use Rattle.wcet.specs.Known.{AreTold, IsFullBy, IsToldOf}
+use Rattle.wcet.specs.Known.{CalleesAreKnown, IsFullBy, IsToldOf}
 use Rattle.wcet.specs.Known.IsFullBy.{fits as full_fits, exceeds as full_exceeds}
 use Rattle.wcet.specs.Telling.{with_back}
 use Rattle.wcet.specs.Prepared.{IsInShape, IsPreparedFor}
@@ -51,7 +51,7 @@ large_found m fit Never e = absurd (none≢some cycles_limit e)
 large_found m fit (Shown n s) e = let same = some_same (limited (n + fit.more)) cycles_limit e in le-leb cycles_limit (limited (n + fit.more)) (omega arith)
 large_found m fit (Large n) e = refl
 
-module _ (laws : AreFoundLaws) (P : Program) (t : Timing) (bound_of : BoundOf) (k : Coded) (table : List Known) (m : ℕ) (p : Prepared) (c : IsCoded k) (of : IsCodedOf P m k) (ends : AreTold P t table m) (shape : IsInShape p)
+module _ (laws : AreFoundLaws) (P : Program) (t : Timing) (bound_of : BoundOf) (k : Coded) (table : List Known) (m : ℕ) (p : Prepared) (c : IsCoded k) (of : IsCodedOf P m k) (ends : CalleesAreKnown P t table m) (shape : IsInShape p)
     (h : IsPreparedFor P t bound_of table m p) (small : OwnAreSmall P t m) (fit : Fit) (same_fits : p.fits ≡ fit.fits) (fit_of : IsFitOf P t m fit) (walked : Walked) (is : IsWalked p walked) where
   abbrev known : Known
   known = (found_by m fit walked).known

@@ -20,7 +20,7 @@ use Rattle.call_regions.proofs.Sorting.{if_none}
 use Rattle.wcet.specs.declared.known.Known.{Known}
 use Rattle.wcet.specs.declared.found.Found.{Found}
 use Rattle.wcet.specs.declared.methods.Methods.{Methods}
-use Rattle.wcet.specs.Known.{BoundSetting, bounds_in, ForEach, known_at, IsLimited, AreTold, IsKnownOf}
+use Rattle.wcet.specs.Known.{BoundSetting, bounds_in, ForEach, known_at, IsLimited, CalleesAreKnown, IsKnownOf}
 use Rattle.wcet.specs.Found.{kind_of, Cover, ShowsNumber, IsSectionOf, HasSection, IsFoundOf}
 use Rattle.wcet.specs.Methods.{values_by, IsLargeAmong, AreMethodsFound, AddsMethod}
 use Rattle.wcet.specs.Ready.{AreBehindCalls}
@@ -141,7 +141,7 @@ module _ (one_more : OneMoreMeets) (st : BoundSetting) (done : List ℕ) (m : �
       (known_stays P st.timing (bounds_in st) table (set table m k) x (known_at table x) (λ y call. known_same table m y k (unmet y (called_before P done m behind x y before call))) (h.known P of front x before))
 
   -- all that m may call is told
-  are_told : (P : Program) → IsFlowOf P st.flow → AreBehindCalls P (done ++ m ∷ []) → AreTold P st.timing table m
+  are_told : (P : Program) → IsFlowOf P st.flow → AreBehindCalls P (done ++ m ∷ []) → CalleesAreKnown P st.timing table m
   are_told P of behind y call = (h.known P of (front_behind P done m behind) y (last_behind P done m behind y call)).told
 
   known_here : (P : Program) → IsFlowOf P st.flow → AreBehindCalls P (done ++ m ∷ []) → IsKnownOf P st.timing (bounds_in st) (set table m k) m (known_at (set table m k) m)
@@ -160,10 +160,10 @@ module _ (one_more : OneMoreMeets) (st : BoundSetting) (done : List ℕ) (m : �
   -- the sections with one more
   module _ (s : CertSection) (some : found.section ≡ Some s) where
     section_is : IsSectionOf m k s
-    section_is = (if_at found.section s (λ s. IsSectionOf m k s × ForEach st (λ P. AreTold P st.timing table m → ShowsNumber P st.timing (bounds_in st) table m k s)) some is.section).0
+    section_is = (if_at found.section s (λ s. IsSectionOf m k s × ForEach st (λ P. CalleesAreKnown P st.timing table m → ShowsNumber P st.timing (bounds_in st) table m k s)) some is.section).0
 
     shows : (P : Program) → IsFlowOf P st.flow → AreBehindCalls P (done ++ m ∷ []) → ShowsNumber P st.timing (bounds_in st) table m k s
-    shows P of behind = (if_at found.section s (λ s. IsSectionOf m k s × ForEach st (λ P. AreTold P st.timing table m → ShowsNumber P st.timing (bounds_in st) table m k s)) some is.section).1 P of (are_told P of behind)
+    shows P of behind = (if_at found.section s (λ s. IsSectionOf m k s × ForEach st (λ P. CalleesAreKnown P st.timing table m → ShowsNumber P st.timing (bounds_in st) table m k s)) some is.section).1 P of (are_told P of behind)
 
     values_more : values_by (set table m k) (done ++ m ∷ []) ≡ values_by table done ++ section_value s k.asked ∷ []
     values_more =

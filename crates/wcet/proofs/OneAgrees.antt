@@ -23,7 +23,7 @@ use Rattle.wcet.specs.declared.prepared.Prepared.{Prepared}
 use Rattle.wcet.specs.declared.fit.Fit.{Fit}
 use Rattle.wcet.specs.declared.found.Walked.{Walked}
 use Rattle.wcet.specs.declared.found.Walked.TheVariants.{Never, Shown, Large}
-use Rattle.wcet.specs.Known.{known_at, AreTold, AreNumbersOf, Agrees, ExceedsBeside}
+use Rattle.wcet.specs.Known.{known_at, CalleesAreKnown, AreNumbersOf, Agrees, ExceedsBeside}
 use Rattle.wcet.specs.Known.ExceedsBeside.{full as exceeds_whole, inside as exceeds_inside, loops as exceeds_loops}
 use Rattle.wcet.specs.Telling.{with_back}
 use Rattle.wcet.specs.Prepared.{IsInShape, IsPreparedFor}
@@ -37,7 +37,7 @@ use Rattle.wcet.proofs.Measuring.{OwnAreSmall, loops_in}
 use Rattle.wcet.proofs.OneValue.{AreFoundLaws, IsOne, one_inside, one_loops_number}
 use Rattle.wcet.proofs.Valuing.{found_is_value}
 
-module _ (laws : AreFoundLaws) (P : Program) (t : Timing) (bound_of : BoundOf) (k : Coded) (table : List Known) (m : ℕ) (p : Prepared) (c : IsCoded k) (of : IsCodedOf P m k) (ends : AreTold P t table m) (shape : IsInShape p)
+module _ (laws : AreFoundLaws) (P : Program) (t : Timing) (bound_of : BoundOf) (k : Coded) (table : List Known) (m : ℕ) (p : Prepared) (c : IsCoded k) (of : IsCodedOf P m k) (ends : CalleesAreKnown P t table m) (shape : IsInShape p)
     (h : IsPreparedFor P t bound_of table m p) (small : OwnAreSmall P t m) (fit : Fit) (same_fits : p.fits ≡ fit.fits) (fit_of : IsFitOf P t m fit) where
   abbrev loops : List BoundedLoop
   loops = loops_in laws.walks P t bound_of table m p h small

@@ -25,7 +25,7 @@ use Rattle.compact_walks.specs.Limited.{limited}
 use Rattle.compact_walks.specs.Moving.{moved_natural}
 use Rattle.wcet.specs.declared.known.Known.{Known}
 use Rattle.wcet.specs.declared.prepared.Prepared.{Prepared}
-use Rattle.wcet.specs.Known.{known_at, AreTold, Agrees}
+use Rattle.wcet.specs.Known.{known_at, CalleesAreKnown, Agrees}
 use Rattle.wcet.specs.Prepared.{node_of, nest_of, adds_by, is_without, AreChargesOf, IsInShape, IsPreparedFor}
 use Rattle.wcet.specs.Prepared.AreChargesOf.{none, some}
 use Rattle.wcet.proofs.Alike.{same_long, same_members, same_charged, same_fees}
@@ -64,7 +64,7 @@ pub record AreFoundLaws : Type 0 where
   pub charged_loops : ChargedLoopsAreOne
   pub charges : ChargesAreOne
 
-module _ (laws : AreFoundLaws) (P : Program) (t : Timing) (bound_of : BoundOf) (k : Coded) (table : List Known) (m : ℕ) (p : Prepared) (c : IsCoded k) (of : IsCodedOf P m k) (ends : AreTold P t table m) (shape : IsInShape p)
+module _ (laws : AreFoundLaws) (P : Program) (t : Timing) (bound_of : BoundOf) (k : Coded) (table : List Known) (m : ℕ) (p : Prepared) (c : IsCoded k) (of : IsCodedOf P m k) (ends : CalleesAreKnown P t table m) (shape : IsInShape p)
     (h : IsPreparedFor P t bound_of table m p) (small : OwnAreSmall P t m) where
   abbrev flow : LiveNest P bound_of m
   flow = live_nest laws.walks P t bound_of table m p h small

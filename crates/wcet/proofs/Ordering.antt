@@ -4,14 +4,14 @@ use Rattle.bytecode_model.specs.Program.{Program}
 use Rattle.method_flow.specs.Keeping.{BoundOf}
 use Rattle.method_flow.specs.Regions.{IsWithin}
 use Rattle.method_flow.specs.Regions.IsWithin.{itself, calls}
-use Rattle.wcet.specs.Ready.{AreReady, IsReady}
+use Rattle.wcet.specs.Ready.{AreReady, IsReadyOrder}
 
 -- what may run while a method within does is within
 pub within_all : (P : Program) (m x y : ℕ) → IsWithin P m x → IsWithin P x y → IsWithin P m y
 within_all P m x y (itself {m = z}) rest = rest
 within_all P m x y (calls {m = a} {t = t} {x = b} p start invoke target within) rest = calls p start invoke target (within_all P t b y within rest)
 
-pub are_ready : (P : Program) (bound_of : BoundOf) (root : ℕ) (order : List ℕ) → IsReady P bound_of root order → AreReady P bound_of order
+pub are_ready : (P : Program) (bound_of : BoundOf) (root : ℕ) (order : List ℕ) → IsReadyOrder P bound_of root order → AreReady P bound_of order
 are_ready P bound_of root order ready = record {
   behind = ready.order.first;
   reducible = λ m has x within. ready.reducible x (within_all P root m x ((ready.order.methods.each m).0 has) within);

@@ -30,7 +30,7 @@ use Rattle.wcet.specs.declared.known.Known.{Known}
 use Rattle.wcet.specs.declared.telling.Told.{Told}
 use Rattle.wcet.specs.declared.shape.Shape.{Shape}
 use Rattle.wcet.specs.declared.prepared.Prepared.{Prepared}
-use Rattle.wcet.specs.Known.{BoundSetting, bounds_in, AreTold}
+use Rattle.wcet.specs.Known.{BoundSetting, bounds_in, CalleesAreKnown}
 use Rattle.wcet.specs.Telling.{AreToldBy, AreToldIn}
 use Rattle.wcet.specs.Prepared.{node_of, nest_of, call_count, IsLeftBy, AreCostsBy, IsInShape, AreToldWith, IsShapeOf, AreBounds, IsUnbounded, AreChargesOf, adds_by, is_without, AreWithout, AreLimitedCosts, IsPreparedFor, IsShapeWith, HasNoShapeWith, IsNotPrepared, AreMethodCosts}
 use Rattle.wcet.specs.Laws.{GraphsWhereTargetsEnd, CostsAreLimited}
@@ -123,7 +123,7 @@ module _ (P : Program) (t : Timing) (table : List Known) (m : ℕ) (fits : Bool)
 -- ---- a method
 
 module _ (ends : GraphsWhereTargetsEnd) (sums : CostsAreLimited) (set : BoundSetting) (m : ℕ) (table : List Known) (k : Coded) (told : List Told) (is : slice_get set.flow.methods m ≡ Some k) (c : IsCoded k) (are : AreToldIn set m table told) where
-  live : (g : Digraph) → IsGraphWhere k (map (λ (s : Told). s.goes_on) told) g → (P : Program) → IsFlowOf P set.flow → AreTold P set.timing table m → IsLiveGraph P m g
+  live : (g : Digraph) → IsGraphWhere k (map (λ (s : Told). s.goes_on) told) g → (P : Program) → IsFlowOf P set.flow → CalleesAreKnown P set.timing table m → IsLiveGraph P m g
   live g where_all P of told_end = ends P set.timing set.flow m k table (method_load set.timing.read set.flow.methods m) told g of is c told_end (are.1 k is) (where_all P m (of.methods m k is))
 
   by_load : (P : Program) → IsFlowOf P set.flow → AreToldBy table (load P set.timing.read m) set.flow k.calls told
@@ -133,7 +133,7 @@ module _ (ends : GraphsWhereTargetsEnd) (sums : CostsAreLimited) (set : BoundSet
 
   pub prepared_for : (p : Prepared) → IsShapeWith set m told p.shape → AreBounds (bounds_in set) m p.shape p.bounds.items → ((P : Program) → IsFlowOf P set.flow → AreChargesOf P set.timing m p.shape p.fits p.charges)
       → AreMethodCosts set m p.shape p.fits p.charges.flags.items told p.costs.items → ((P : Program) → IsFlowOf P set.flow → IsTrue p.fits ↔ RegionFits P set.timing m)
-      → (P : Program) → IsFlowOf P set.flow → AreTold P set.timing table m → IsPreparedFor P set.timing (bounds_in set) table m p
+      → (P : Program) → IsFlowOf P set.flow → CalleesAreKnown P set.timing table m → IsPreparedFor P set.timing (bounds_in set) table m p
   prepared_for p shape bounds charges costs fits P of told_end =
       let g = shape k is in
       let graph = live g.0 g.1 P of told_end in
@@ -149,21 +149,21 @@ module _ (ends : GraphsWhereTargetsEnd) (sums : CostsAreLimited) (set : BoundSet
         costs = costs_for P set.timing table m p.fits p.shape p.charges.flags.items sum.0 sum.1 g.0 p.costs.items g.3.size graph limited_costs;
       }
 
-  pub unshaped : (e : BoundRefusal) → HasNoShapeWith set m told e → (P : Program) → IsFlowOf P set.flow → AreTold P set.timing table m → IsNotPrepared P (bounds_in set) m e
+  pub unshaped : (e : BoundRefusal) → HasNoShapeWith set m told e → (P : Program) → IsFlowOf P set.flow → CalleesAreKnown P set.timing table m → IsNotPrepared P (bounds_in set) m e
   unshaped e h P of told_end =
       elim h [
         | inl none ↦ inl none
         | inr at ↦ let g = at k is in inr (g.0, live g.0 g.1 P of told_end, inl g.2)
       ]
 
-  pub unbounded : (s : Shape) (e : BoundRefusal) → IsShapeWith set m told s → IsUnbounded (bounds_in set) m s e → (P : Program) → IsFlowOf P set.flow → AreTold P set.timing table m → IsNotPrepared P (bounds_in set) m e
+  pub unbounded : (s : Shape) (e : BoundRefusal) → IsShapeWith set m told s → IsUnbounded (bounds_in set) m s e → (P : Program) → IsFlowOf P set.flow → CalleesAreKnown P set.timing table m → IsNotPrepared P (bounds_in set) m e
   unbounded s e shape h P of told_end = let g = shape k is in inr (g.0, live g.0 g.1 P of told_end, inr (s, g.3, h))
 
   pub told_with : AreToldWith set m told
   told_with = record { long = (are.1 k is).long ∙ sym (count_is set m k is); small = are.0 }
 
   abbrev IsPreparedForEach : Prepared → Type 0
-  IsPreparedForEach p = (P : Program) → IsFlowOf P set.flow → AreTold P set.timing table m → IsPreparedFor P set.timing (bounds_in set) table m p
+  IsPreparedForEach p = (P : Program) → IsFlowOf P set.flow → CalleesAreKnown P set.timing table m → IsPreparedFor P set.timing (bounds_in set) table m p
 
   pub prepared_ok : (s : Shape) (fits : Bool) → IsShapeWith set m told s → ((P : Program) → IsFlowOf P set.flow → IsTrue fits ↔ RegionFits P set.timing m) → (r : Result Prepared BoundRefusal)
       → IfOk r (λ p. (p.shape ≡ s) × (p.fits ≡ fits)) → IfOk r (λ p. AreBounds (bounds_in set) m s p.bounds.items) → IfOk r (λ p. (P : Program) → IsFlowOf P set.flow → AreChargesOf P set.timing m s fits p.charges)

@@ -22,7 +22,7 @@ use Rattle.bound_rules.specs.Sections.{AreEntryLoads, IsNoNode, MeetsSection}
 use Rattle.compact_walks.specs.Limited.{AreSmallAt}
 use Rattle.wcet.specs.declared.known.Known.{Known}
 use Rattle.wcet.specs.declared.prepared.Prepared.{Prepared}
-use Rattle.wcet.specs.Known.{AreTold}
+use Rattle.wcet.specs.Known.{CalleesAreKnown}
 use Rattle.wcet.specs.Prepared.{IsPreparedFor}
 use Rattle.wcet.specs.Found.{kind_of}
 use Rattle.wcet.proofs.Raising.{call_raises}
@@ -41,7 +41,7 @@ nothing_misplaced g u (enters_aside v e a) = nil_contains a.entered a.among
 nothing_misplaced g u (holds_entry z f) = nil_contains f.holder f.among
 nothing_misplaced g u (exceeds_limit z x) = none≢some x.value x.is
 
-module _ (invokes : CallsAreInvokes) (P : Program) (t : Timing) (bound_of : BoundOf) (table : List Known) (m : ℕ) (p : Prepared) (starts : ReachesStarts P m) (ends : AreTold P t table m) (h : IsPreparedFor P t bound_of table m p)
+module _ (invokes : CallsAreInvokes) (P : Program) (t : Timing) (bound_of : BoundOf) (table : List Known) (m : ℕ) (p : Prepared) (starts : ReachesStarts P m) (ends : CalleesAreKnown P t table m) (h : IsPreparedFor P t bound_of table m p)
     (earlier : List Valued) (small : AreSmallAt p.shape.nodes p.costs.items) (fits : Bool) (never : ReachesExit h.graph 0 → ⊥) where
   abbrev s : CertSection
   s = record { kind = kind_of fits; method = m; section = empty }

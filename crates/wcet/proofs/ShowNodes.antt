@@ -10,13 +10,13 @@ use Rattle.loop_nest.proofs.Ends.{ends_within}
 use Rattle.section_check.specs.Section.{CertifiedLoop}
 use Rattle.section_check.specs.Placing.{AreWellPlaced}
 use Rattle.path_solver.specs.Solution.{Solution}
-use Rattle.compact_walks.specs.Solving.{IsShown, fees_of}
+use Rattle.compact_walks.specs.Solving.{IsShownWalk, fees_of}
 use Rattle.wcet.specs.declared.prepared.Prepared.{Prepared}
 use Rattle.wcet.specs.Prepared.{IsInShape, IsShapeOf}
 use Rattle.wcet.specs.Found.{problem_of}
 use Rattle.wcet.proofs.ShowMoved.{listed_node, held_node}
 
-module _ (p : Prepared) (in_shape : IsInShape p) (solution : Solution) (shown : IsShown (problem_of p) solution) where
+module _ (p : Prepared) (in_shape : IsInShape p) (solution : Solution) (shown : IsShownWalk (problem_of p) solution) where
   abbrev d : Digraph
   d = p.shape.graph
 

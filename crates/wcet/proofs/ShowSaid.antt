@@ -22,7 +22,7 @@ use Rattle.bound_rules.proofs.Numbering.{in_charged}
 use Rattle.compact_walks.specs.Limited.{cycles_limit, limited}
 use Rattle.wcet.specs.declared.known.Known.{Known}
 use Rattle.wcet.specs.declared.prepared.Prepared.{Prepared}
-use Rattle.wcet.specs.Known.{known_at, AreTold, IsToldOf, IsFullBy}
+use Rattle.wcet.specs.Known.{known_at, CalleesAreKnown, IsToldOf, IsFullBy}
 use Rattle.wcet.specs.Known.IsFullBy.{fits as full_fits, exceeds as full_exceeds}
 use Rattle.wcet.specs.Prepared.{IsPreparedFor, AreChargesOf, is_without_at, nest_of}
 use Rattle.wcet.specs.Prepared.AreChargesOf.{none as no_charge, some as some_charge}
@@ -57,7 +57,7 @@ fits_is P t x k of some = by k.fits of.fits
     by true both = refl
     by false both = absurd (some (λ together. let bad : false ≡ true = both.1 together in cc))
 
-module _ (called : CalledFit) (P : Program) (t : Timing) (bound_of : BoundOf) (table : List Known) (m : ℕ) (p : Prepared) (starts : ReachesStarts P m) (ends : AreTold P t table m) (h : IsPreparedFor P t bound_of table m p)
+module _ (called : CalledFit) (P : Program) (t : Timing) (bound_of : BoundOf) (table : List Known) (m : ℕ) (p : Prepared) (starts : ReachesStarts P m) (ends : CalleesAreKnown P t table m) (h : IsPreparedFor P t bound_of table m p)
     (earlier : List Valued) (cover : Cover P table earlier m) where
   abbrev back : ℕ
   back = load P t.read m

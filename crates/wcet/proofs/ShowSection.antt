@@ -28,10 +28,10 @@ use Rattle.bound_rules.specs.Sections.IsEntryLoad.{no_region, fits as region_fit
 use Rattle.compact_walks.specs.Limited.{AreSmallAt}
 use Rattle.compact_walks.specs.Moving.{IsMoved}
 use Rattle.compact_walks.specs.Laws.{MovedIsRenumbered}
-use Rattle.compact_walks.specs.Solving.{IsShown, fees_of}
+use Rattle.compact_walks.specs.Solving.{IsShownWalk, fees_of}
 use Rattle.wcet.specs.declared.known.Known.{Known}
 use Rattle.wcet.specs.declared.prepared.Prepared.{Prepared}
-use Rattle.wcet.specs.Known.{AreTold}
+use Rattle.wcet.specs.Known.{CalleesAreKnown}
 use Rattle.wcet.specs.Prepared.{IsInShape, IsPreparedFor, AreChargesOf, is_without_at, node_of, nest_of}
 use Rattle.wcet.specs.Prepared.AreChargesOf.{none as no_charge, some as some_charge}
 use Rattle.wcet.specs.Found.{Cover, kind_of, costs_of, problem_of}
@@ -40,7 +40,7 @@ use Rattle.wcet.proofs.ShowTold.{told, told_costs, told_graph, told_small, told_
 use Rattle.wcet.proofs.ShowSaid.{same_regions, says}
 use Rattle.wcet.proofs.ShowMoved.{headers_in, members_in, marks_in, same_headers, same_members, marks_moved, from_listed, from_held, listed_node, held_node, nest_at, mark_at, uncharged, fee_at}
 
-module _ (P : Program) (t : Timing) (bound_of : BoundOf) (table : List Known) (m : ℕ) (p : Prepared) (starts : ReachesStarts P m) (ends : AreTold P t table m) (h : IsPreparedFor P t bound_of table m p)
+module _ (P : Program) (t : Timing) (bound_of : BoundOf) (table : List Known) (m : ℕ) (p : Prepared) (starts : ReachesStarts P m) (ends : CalleesAreKnown P t table m) (h : IsPreparedFor P t bound_of table m p)
     (earlier : List Valued) (small : AreSmallAt p.shape.nodes p.costs.items) (fits : Bool) (sec : Certified) where
   abbrev pub section : CertSection
   section = record { kind = kind_of fits; method = m; section = sec }
@@ -68,9 +68,9 @@ module _ (P : Program) (t : Timing) (bound_of : BoundOf) (table : List Known) (m
     are_fees = are;
   }
 
-module _ (called : CalledFit) (stays : RenumberedStaysAccepted) (renumbers : MovedIsRenumbered) (P : Program) (t : Timing) (bound_of : BoundOf) (table : List Known) (m : ℕ) (p : Prepared) (starts : ReachesStarts P m) (ends : AreTold P t table m)
+module _ (called : CalledFit) (stays : RenumberedStaysAccepted) (renumbers : MovedIsRenumbered) (P : Program) (t : Timing) (bound_of : BoundOf) (table : List Known) (m : ℕ) (p : Prepared) (starts : ReachesStarts P m) (ends : CalleesAreKnown P t table m)
     (h : IsPreparedFor P t bound_of table m p) (in_shape : IsInShape p) (is_moved : IsMoved h.graph p.shape.graph (node_of p.shape)) (earlier : List Valued) (cover : Cover P table earlier m) (small : AreSmallAt p.shape.nodes p.costs.items) (fits : Bool) (same : p.fits ≡ fits)
-    (solution : Solution) (shown : IsShown (problem_of p) solution) where
+    (solution : Solution) (shown : IsShownWalk (problem_of p) solution) where
   abbrev node : ℕ → ℕ
   node = node_of p.shape
 

@@ -17,7 +17,7 @@ use Rattle.method_flow.specs.Keeping.{BoundOf}
 use Rattle.bound_rules.specs.Fitting.{header_bound}
 use Rattle.compact_walks.specs.Limited.{cycles_limit}
 use Rattle.compact_walks.specs.Moving.{moved_natural}
-use Rattle.compact_walks.specs.Solving.{IsShown, fees_of}
+use Rattle.compact_walks.specs.Solving.{IsShownWalk, fees_of}
 use Rattle.compact_walks.proofs.Kept.{all_of}
 use Rattle.compact_walks.proofs.Renumbering.{rising_moved}
 use Rattle.compact_walks.proofs.Loops.{headers_moved}
@@ -48,7 +48,7 @@ even_header bound_of m u some = by (u % 2 == 0) refl some
     by false e h = absurd (let bad : false ≡ true = h in cc)
 
 module _ (stays : RenumberedStaysInForm) (bound_of : BoundOf) (m : ℕ) (p : Prepared) (fits : Bool) (method : m < 2 ^ 32) (few : p.shape.size ≤ 2 ^ 32) (in_shape : IsInShape p) (bounds : AreBounds bound_of m p.shape p.bounds.items) (same : p.fits ≡ fits)
-    (solution : Solution) (shown : IsShown (problem_of p) solution) (iterations : All (λ (l : CertifiedLoop). l.iteration_cost < cycles_limit) (moved (node_of p.shape) solution.section).loops) where
+    (solution : Solution) (shown : IsShownWalk (problem_of p) solution) (iterations : All (λ (l : CertifiedLoop). l.iteration_cost < cycles_limit) (moved (node_of p.shape) solution.section).loops) where
   abbrev node : ℕ → ℕ
   node = node_of p.shape
 

@@ -27,7 +27,7 @@ use Rattle.bound_rules.proofs.Owning.{same_of_each}
 use Rattle.compact_walks.specs.Limited.{cycles_limit, limited, AreSmallAt}
 use Rattle.wcet.specs.declared.known.Known.{Known}
 use Rattle.wcet.specs.declared.prepared.Prepared.{Prepared}
-use Rattle.wcet.specs.Known.{known_at, AreTold}
+use Rattle.wcet.specs.Known.{known_at, CalleesAreKnown}
 use Rattle.wcet.specs.Telling.{with_back}
 use Rattle.wcet.specs.Prepared.{IsPreparedFor, adds_by, is_without}
 use Rattle.wcet.proofs.Limiting.{small_is}
@@ -77,7 +77,7 @@ abbrev pub told_by : (back : ℕ) → (without_loads : Bool) → Known → Optio
 told_by back true k = k.asked
 told_by back false k = more_by back k.full
 
-module _ (P : Program) (t : Timing) (bound_of : BoundOf) (table : List Known) (m : ℕ) (p : Prepared) (starts : ReachesStarts P m) (ends : AreTold P t table m) (h : IsPreparedFor P t bound_of table m p) where
+module _ (P : Program) (t : Timing) (bound_of : BoundOf) (table : List Known) (m : ℕ) (p : Prepared) (starts : ReachesStarts P m) (ends : CalleesAreKnown P t table m) (h : IsPreparedFor P t bound_of table m p) where
   abbrev pub without : ℕ → Bool
   without q = is_without p.fits p.shape p.charges.flags.items q
 

@@ -28,7 +28,7 @@ use Rattle.bound_rules.specs.Costs.{added_at, greatest_of}
 use Rattle.compact_walks.specs.Limited.{cycles_limit, limited}
 use Rattle.wcet.specs.declared.known.Known.{Known}
 use Rattle.wcet.specs.declared.telling.Told.{Told}
-use Rattle.wcet.specs.Known.{known_at, AreTold}
+use Rattle.wcet.specs.Known.{known_at, CalleesAreKnown}
 use Rattle.wcet.specs.Telling.{with_back, IsToldBy, AreToldBy, added_by, AreToldAdded}
 use Rattle.wcet.specs.Prepared.{adds_by, AreLimitedCosts}
 use Rattle.wcet.specs.Laws.{GraphsWhereTargetsEnd, CostsAreLimited}
@@ -82,7 +82,7 @@ module _ (starts : (code : List ℕ) → AreStarts code) (kinds : RowsAreOfTheir
 
   -- ---- edges
 
-  module _ (ends : AreTold P t table n) where
+  module _ (ends : CalleesAreKnown P t table n) where
     may_call : (p x : ℕ) → IsStart k.code p → IsCall P n p → IsTarget P n p x → MayCall P n x
     may_call p x start call target = record { place = p; start = start_of p start; call = call; is_target = target }
 

@@ -20,7 +20,7 @@ use Rattle.wcet.specs.declared.methods.Methods.{Methods}
 use Rattle.wcet.specs.Known.{BoundSetting, bounds_in, ForEach, known_at, Agrees, ExceedsBeside}
 use Rattle.wcet.specs.Laws.{numbers_by}
 use Rattle.wcet.specs.Methods.{AreMethodsFound}
-use Rattle.wcet.specs.Ready.{IsReady}
+use Rattle.wcet.specs.Ready.{IsReadyOrder}
 pub use Rattle.wcet.specs.Certified.{IsCertified}
 
 -- ---- what is printed
@@ -82,4 +82,4 @@ pub record AreReadyFound (set : BoundSetting) (root : ℕ) (a : Methods) : Type 
   pub order : List ℕ
   pub distinct : AreDistinct order
   pub found : AreMethodsFound set order a
-  pub ready : ForEach set (λ P. IsReady P (bounds_in set) root order)
+  pub ready : ForEach set (λ P. IsReadyOrder P (bounds_in set) root order)

@@ -20,14 +20,14 @@ use Rattle.bound_rules.specs.Told.{Valued, value_in}
 use Rattle.bound_rules.specs.Sections.{MeetsSection}
 use Rattle.wcet.specs.declared.known.Known.{Known}
 use Rattle.compact_walks.specs.Limited.{cycles_limit, limited, picked, AreSmallAt, SomeExceeds}
-use Rattle.compact_walks.specs.Solving.{Problem, loops_of, IsShown}
+use Rattle.compact_walks.specs.Solving.{Problem, loops_of, IsShownWalk}
 use Rattle.wcet.specs.declared.fit.Fit.{Fit}
 use Rattle.wcet.specs.declared.found.Walked.{Walked}
 use Rattle.wcet.specs.declared.found.Walked.TheVariants.{Never, Shown, Large}
 use Rattle.wcet.specs.declared.found.Found.{Found}
 use Rattle.wcet.specs.declared.prepared.Prepared.{Prepared}
 use Rattle.wcet.specs.Prepared.{node_of}
-use Rattle.wcet.specs.Known.{BoundSetting, bounds_in, ForEach, known_at, IsLimited, AreTold, IsKnownOf}
+use Rattle.wcet.specs.Known.{BoundSetting, bounds_in, ForEach, known_at, IsLimited, CalleesAreKnown, IsKnownOf}
 
 -- ---- the loads beside walks
 
@@ -56,7 +56,7 @@ problem_of p = record {
 pub record IsShownBy (p : Prepared) (value : ℕ) (s : Certified) : Type 0 where
   pub small : AreSmallAt p.shape.nodes p.costs.items
   pub solution : Solution
-  pub shown : IsShown (problem_of p) solution
+  pub shown : IsShownWalk (problem_of p) solution
   pub value_is : value ≡ solution.value
   pub section_is : s ≡ moved (node_of p.shape) solution.section
   pub iterations : All (λ l. l.iteration_cost < cycles_limit) s.loops
@@ -134,8 +134,8 @@ pub record HasSection (P : Program) (t : Timing) (bound_of : BoundOf) (table : L
 -- none of its numbers is too large, its section.
 pub record IsFoundOf (set : BoundSetting) (table : List Known) (m : ℕ) (f : Found) : Type 0 where
   pub limited : IsLimited f.known
-  pub known : ForEach set (λ P. AreTold P set.timing table m → IsKnownOf P set.timing (bounds_in set) table m f.known)
+  pub known : ForEach set (λ P. CalleesAreKnown P set.timing table m → IsKnownOf P set.timing (bounds_in set) table m f.known)
   pub none : f.known.too_large ≡ true → f.section ≡ None
   pub some : f.known.too_large ≡ false → f.section ≢ None
   pub section : IfSome f.section (λ s. IsSectionOf m f.known s
-      × ForEach set (λ P. AreTold P set.timing table m → ShowsNumber P set.timing (bounds_in set) table m f.known s))
+      × ForEach set (λ P. CalleesAreKnown P set.timing table m → ShowsNumber P set.timing (bounds_in set) table m f.known s))

@@ -8,7 +8,7 @@ use Rattle.wcet.specs.declared.known.Known.{Known}
 use Rattle.wcet.specs.declared.prepared.Prepared.{Prepared}
 use Rattle.wcet.specs.declared.fit.Fit.{Fit}
 use Rattle.wcet.specs.declared.found.Walked.{Walked}
-use Rattle.wcet.specs.Known.{IsLimited, AreTold, IsKnownOf}
+use Rattle.wcet.specs.Known.{IsLimited, CalleesAreKnown, IsKnownOf}
 use Rattle.wcet.specs.Prepared.{IsInShape, IsPreparedFor}
 use Rattle.wcet.specs.Found.{IsFitOf, IsWalked, found_by}
 
@@ -17,6 +17,6 @@ abbrev pub KnownIs : Type 0
 KnownIs =
     (P : Program) (t : Timing) (bound_of : BoundOf) (f : Flow) (k : Coded) (table : List Known) (m : ℕ) (p : Prepared) (fit : Fit) (walked : Walked)
     → IsFlowOf P f → slice_get f.methods m ≡ Some k → IsCoded k
-    → t.read ≤ 63 → t.write ≤ 63 → AreTold P t table m → All IsLimited table → IsInShape p → IsPreparedFor P t bound_of table m p → p.fits ≡ fit.fits
+    → t.read ≤ 63 → t.write ≤ 63 → CalleesAreKnown P t table m → All IsLimited table → IsInShape p → IsPreparedFor P t bound_of table m p → p.fits ≡ fit.fits
     → IsFitOf P t m fit → IsWalked p walked
     → IsKnownOf P t bound_of table m (found_by m fit walked).known

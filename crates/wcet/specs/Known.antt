@@ -93,8 +93,8 @@ pub record IsToldOf (P : Program) (t : Timing) (m : ℕ) (k : Known) : Type 0 wh
   pub sum : IsFullBy P t m k
 
 -- of all that a method may call
-abbrev pub AreTold : Program → Timing → List Known → (method : ℕ) → Type 0
-AreTold P t table m = (x : ℕ) → MayCall P m x → IsToldOf P t x (known_at table x)
+abbrev pub CalleesAreKnown : Program → Timing → List Known → (method : ℕ) → Type 0
+CalleesAreKnown P t table m = (x : ℕ) → MayCall P m x → IsToldOf P t x (known_at table x)
 
 -- What is known of a method, by what is known of all that it may call: every family of numbers that agrees on these agrees on it, and has a number of
 -- it that is too large exactly where that is known; and where none is, the family that has exactly these numbers has those of the method.

@@ -16,7 +16,7 @@ use Rattle.compact_walks.specs.Limited.{cycles_limit}
 use Rattle.wcet.specs.declared.known.Known.{Known}
 use Rattle.wcet.specs.declared.telling.Told.{Told}
 use Rattle.wcet.specs.declared.shape.Shape.{Shape}
-use Rattle.wcet.specs.Known.{known_at, AreTold, IsKnownOf, Agrees, ExceedsBeside}
+use Rattle.wcet.specs.Known.{known_at, CalleesAreKnown, IsKnownOf, Agrees, ExceedsBeside}
 use Rattle.wcet.specs.Telling.{AreToldBy, AreToldAdded}
 use Rattle.wcet.specs.Prepared.{IsShapeOf, IsLeftBy, IsUnbounded, AreLimitedCosts, adds_by}
 use Rattle.wcet.specs.Ready.{AreReady}
@@ -27,7 +27,8 @@ abbrev pub GraphsWhereTargetsEnd : Type 0
 GraphsWhereTargetsEnd =
     (P : Program) (t : Timing) (f : Flow) (m : ℕ) (k : Coded) (table : List Known) (back : ℕ) (told : List Told) (g : Digraph) → IsFlowOf P f
     → slice_get f.methods m ≡ Some k → IsCoded k
-    → AreTold P t table m → AreToldBy table back f k.calls told → IsGraphBy (IsEdgeWhere P m k.calls (map (λ s. s.goes_on) told)) P m g → IsLiveGraph P m g
+    → CalleesAreKnown P t table m → AreToldBy table back f k.calls told → IsGraphBy (IsEdgeWhere P m k.calls (map (λ s. s.goes_on) told)) P m g
+        → IsLiveGraph P m g
 
 -- costs with what is told of calls are the costs of the nodes of the live graph
 abbrev pub CostsAreLimited : Type 0

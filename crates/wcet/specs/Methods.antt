@@ -8,7 +8,7 @@ use Rattle.bound_rules.specs.Conditions.{MeetAll}
 use Rattle.wcet.specs.declared.known.Known.{Known}
 use Rattle.wcet.specs.declared.found.Found.{Found}
 use Rattle.wcet.specs.declared.methods.Methods.{Methods}
-use Rattle.wcet.specs.Known.{BoundSetting, bounds_in, ForEach, known_at, IsLimited, AreTold, IsKnownOf}
+use Rattle.wcet.specs.Known.{BoundSetting, bounds_in, ForEach, known_at, IsLimited, CalleesAreKnown, IsKnownOf}
 use Rattle.wcet.specs.Prepared.{IsNotPrepared}
 use Rattle.wcet.specs.Found.{HasSection, IsFoundOf}
 use Rattle.wcet.specs.Ready.{AreBehindCalls}
@@ -49,4 +49,4 @@ pub record AddsNext (set : BoundSetting) (m : ℕ) (old new : Methods) : Type 0 
 
 -- or it can't be found, where all that it may call is told
 abbrev pub IsUnready : BoundSetting → (table : List Known) → (method : ℕ) → BoundRefusal → Type 0
-IsUnready set table m fault = ForEach set (λ P. AreTold P set.timing table m → IsNotPrepared P (bounds_in set) m fault)
+IsUnready set table m fault = ForEach set (λ P. CalleesAreKnown P set.timing table m → IsNotPrepared P (bounds_in set) m fault)

@@ -10,7 +10,7 @@ use Rattle.bound_rules.specs.Bounding.{IsFirstTooLarge, AreReducible, HaveLines}
 use Rattle.call_regions.specs.Calling.{IsTargetsFirst}
 
 -- The order has the root and all that may run while it does, targets first; their graphs are reducible, and each loop has a bound.
-pub record IsReady (P : Program) (bound_of : BoundOf) (root : ℕ) (listed : List ℕ) : Type 0 where
+pub record IsReadyOrder (P : Program) (bound_of : BoundOf) (root : ℕ) (listed : List ℕ) : Type 0 where
   pub order : IsTargetsFirst P root listed
   pub reducible : AreReducible P root
   pub lines : HaveLines P bound_of root

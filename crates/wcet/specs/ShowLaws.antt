@@ -8,7 +8,7 @@ use Rattle.wcet.specs.declared.known.Known.{Known}
 use Rattle.wcet.specs.declared.prepared.Prepared.{Prepared}
 use Rattle.wcet.specs.declared.fit.Fit.{Fit}
 use Rattle.wcet.specs.declared.found.Walked.{Walked}
-use Rattle.wcet.specs.Known.{AreTold}
+use Rattle.wcet.specs.Known.{CalleesAreKnown}
 use Rattle.wcet.specs.Prepared.{AreBounds, IsInShape, IsPreparedFor}
 use Rattle.wcet.specs.Found.{IsWalked, found_by, IsSectionOf, ShowsNumber}
 
@@ -17,7 +17,7 @@ abbrev pub FoundShows : Type 0
 FoundShows =
     (P : Program) (t : Timing) (bound_of : BoundOf) (f : Flow) (k : Coded) (table : List Known) (m : ℕ) (p : Prepared) (fit : Fit) (walked : Walked)
     → IsFlowOf P f → slice_get f.methods m ≡ Some k → IsCoded k
-    → AreTold P t table m → IsInShape p → IsPreparedFor P t bound_of table m p → p.fits ≡ fit.fits → IsWalked p walked
+    → CalleesAreKnown P t table m → IsInShape p → IsPreparedFor P t bound_of table m p → p.fits ≡ fit.fits → IsWalked p walked
     → IfSome (found_by m fit walked).section (ShowsNumber P t bound_of table m (found_by m fit walked).known)
 
 -- and it is one of the method that can be written, whatever the program

@@ -2,9 +2,9 @@
 ghost use Rattle.std.specs.Prelude.{◌≡◌, ◌<◌, ◌≤◌, ◌^◌, ℕ, Some, length, slice_get, All, IfOk, IfErr};
 ghost use Rattle.method_flow.specs.Flow.{Coded, IsCoded};
 ghost use Rattle.compact_walks.specs.Limited.{cycles_limit, ArePicked, AreSmallAt};
-ghost use Rattle.compact_walks.specs.Solving.{IsShown};
+ghost use Rattle.compact_walks.specs.Solving.{IsShownWalk};
 ghost use Rattle.wcet.specs.declared.found.Walked.TheVariants.{Never, Shown, Large};
-ghost use Rattle.wcet.specs.Known.{bounds_in, ForEach, AreTold, IsLimited, IsBoundSetting};
+ghost use Rattle.wcet.specs.Known.{bounds_in, ForEach, CalleesAreKnown, IsLimited, IsBoundSetting};
 ghost use Rattle.wcet.specs.Prepared.{IsInShape, IsNotPrepared};
 ghost use Rattle.wcet.specs.Found.{IsFoundOf, IsSmallWalked, IsWalked, found_by, kind_of, known_by, problem_of};
 
@@ -44,7 +44,7 @@ pub enum Walked {
 fn shown(alloc: Global, p: &Prepared, solved: &Solved) -> Result<Walked, NoMemory>
     requires shape { IsInShape p.now }
     requires small { AreSmallAt p.now.shape.nodes p.now.costs.items }
-    requires shown { IsShown (problem_of p.now) solved.now }
+    requires shown { IsShownWalk (problem_of p.now) solved.now }
     ensures { IfOk result (IsWalked p.now) }
 {
     let section = moved(alloc, p.shape.nodes.as_slice(), solved.section())?;
@@ -205,7 +205,7 @@ pub fn examine(
     requires long { length table.now ≡ length task.now.flow.methods }
     requires limited { All IsLimited table.now }
     ensures found { IfOk result (IsFoundOf task.now table.now m) }
-    ensures cause { IfErr result (λ e. ForEach task.now (λ P. AreTold P task.now.timing table.now m → IsNotPrepared P (bounds_in task.now) m e)) }
+    ensures cause { IfErr result (λ e. ForEach task.now (λ P. CalleesAreKnown P task.now.timing table.now m → IsNotPrepared P (bounds_in task.now) m e)) }
 {
     // The laws are for the proof.
     known_is();

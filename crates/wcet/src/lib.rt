@@ -13,7 +13,7 @@ ghost use Rattle.bound_rules.specs.Conditions.{MeetsConditions};
 ghost use Rattle.bound_rules.specs.Numbers.{IsPrinted};
 ghost use Rattle.wcet.specs.declared.ending.MethodBound.{MethodBound};
 ghost use Rattle.wcet.specs.Ending.{IsMethodBound};
-ghost use Rattle.wcet.specs.Ready.{AreReady, IsReady, IsSizeCause};
+ghost use Rattle.wcet.specs.Ready.{AreReady, IsReadyOrder, IsSizeCause};
 
 mod charges;
 pub mod costs;
@@ -64,7 +64,7 @@ pub fn certify(
     requires root { root < length f.now.methods }
     requires known { All (λ m. m < length f.now.methods) order.now.methods }
     requires distinct { AreDistinct order.now.methods }
-    requires ready { (P : Program) → IsFlowOf P f.now → IsReady P (bounds_of f.now b.now) root order.now.methods }
+    requires ready { (P : Program) → IsFlowOf P f.now → IsReadyOrder P (bounds_of f.now b.now) root order.now.methods }
     ensures grammar { IfOk result (λ c. IsInGrammar c × (c.version ≡ 2) × (c.root ≡ root)) }
     ensures meets { IfOk result (λ c. (P : Program) → IsFlowOf P f.now → MeetsConditions P t (bounds_of f.now b.now) c) }
     ensures printed { IfOk result (λ c. (P : Program) → IsFlowOf P f.now → IsPrinted P t (bounds_of f.now b.now) root c.bound) }

@@ -1,7 +1,7 @@
 //! What the walks of a method are asked on.
 ghost use Rattle.std.specs.Prelude.{◌≡◌, ◌<◌, ◌↔◌, length, All, IfOk, IfErr, IsTrue};
 ghost use Rattle.bound_rules.specs.Fitting.{RegionFits};
-ghost use Rattle.wcet.specs.Known.{bounds_in, ForEach, AreTold, IsLimited};
+ghost use Rattle.wcet.specs.Known.{bounds_in, ForEach, CalleesAreKnown, IsLimited};
 ghost use Rattle.wcet.specs.Prepared.{AreBounds, AreChargesOf, AreMethodCosts, AreToldWith, HasNoShapeWith, IsInShape, IsNotPrepared, IsPreparedFor};
 ghost use Rattle.wcet.specs.Prepared.{IsShapeWith, IsUnbounded, call_count};
 
@@ -120,9 +120,9 @@ pub fn prepare(
     ensures shape { IfOk result IsInShape }
     ensures same { IfOk result (λ p. p.fits ≡ fits) }
     ensures bounds { IfOk result (λ p. AreBounds (bounds_in task.now) m p.shape p.bounds.items) }
-    ensures prepared { IfOk result (λ p. ForEach task.now (λ P. AreTold P task.now.timing table.now m
+    ensures prepared { IfOk result (λ p. ForEach task.now (λ P. CalleesAreKnown P task.now.timing table.now m
         → IsPreparedFor P task.now.timing (bounds_in task.now) table.now m p)) }
-    ensures cause { IfErr result (λ e. ForEach task.now (λ P. AreTold P task.now.timing table.now m → IsNotPrepared P (bounds_in task.now) m e)) }
+    ensures cause { IfErr result (λ e. ForEach task.now (λ P. CalleesAreKnown P task.now.timing table.now m → IsNotPrepared P (bounds_in task.now) m e)) }
 {
     graphs_where_targets_end();
     costs_are_limited();

@@ -11,7 +11,8 @@ use Rattle.std.proofs.lemmas.List.Elements.{All-from_recursion}
 use Rattle.std.proofs.lemmas.List.Splits.{slice_split_none, slice_split_at, length-slice_split}
 use Rattle.ascii_text.specs.Line.{lines_of, without_empty_last}
 use Rattle.ascii_text.proofs.NumberLemmas.{HasOneSpelling-decimal}
-use Rattle.loop_bounds.specs.Grammar.{IsNumber, IsLoopLine, Says}
+use Rattle.loop_bounds.specs.Grammar.{IsLoopLine, SaysLoopBound}
+use Rattle.loop_bounds.specs.Lines.{IsNumber}
 use Rattle.work_gen.specs.Work.{adder_name, turns_of, bound_line}
 use Rattle.work_gen.specs.Bounds.{adder_text, adder_bound}
 use Rattle.work_gen.proofs.Decimals.{decimal_fails}
@@ -122,7 +123,7 @@ loop_line k few =
       bound = is_number (turns_of k) (omega (arith, turns_most k, large));
     }
 
-pub line_says : (k : ℕ) → k ≤ 1000 → Says (bound_words k) (adder_bound k ∷ [])
+pub line_says : (k : ℕ) → k ≤ 1000 → SaysLoopBound (bound_words k) (adder_bound k ∷ [])
 line_says k few = (λ silent. absurd (let e : 87 ≡ 35 = silent in omega arith), loop_line k few)
 
 -- ---- one line more

@@ -8,7 +8,7 @@ use Rattle.class_pool.specs.Spelling.{u2}
 use Rattle.class_making.specs.declared.plan.Piece.{Piece}
 use Rattle.class_making.specs.declared.plan.Piece.TheVariants.{Byte}
 use Rattle.class_making.specs.Plans.{piece_mentions}
-use Rattle.class_making.specs.Right.{IsRightMention, code_length, IsRightPiece, IsRightCode}
+use Rattle.class_making.specs.Right.{IsRightMention, code_length, IsRightPiece, IsRightCodePlan}
 use Rattle.core_classes.proofs.RightLemmas.{Types, int, pool_text, takes_int_types, is_method, method_right}
 use Rattle.work_gen.specs.Work.{class_name, adder_name, adder_descriptor, bytes_in, call_of, turns_of, loop_bytes, adder_pieces, adder_code, is_called, called, main_end, main_pieces}
 use Rattle.work_gen.proofs.Names.{is_name, fits}
@@ -90,7 +90,7 @@ turns_fit : (k : ℕ) → turns_of k < 2 ^ 8
 turns_fit k =
     let small : k % 8 < 8 = mod-lt k (lit< tt) in omega (arith, small)
 
-pub adder_code_right : (k : ℕ) → IsRightCode (adder_code k)
+pub adder_code_right : (k : ℕ) → IsRightCodePlan (adder_code k)
 unfolding adder_code
 adder_code_right k =
     let size : code_length (adder_pieces k) ≡ 19 + code_length (before (k % 10 == 1) k) = bytes_length (loop_bytes (turns_of k)) (before (k % 10 == 1) k) in
@@ -151,7 +151,7 @@ main_count n = omega (arith, calls_count (called n) main_end, called_count n)
 u2_right : (n : ℕ) → AllByRecursion (λ byte. byte < 2 ^ 8) (0x11 ∷ u2 n)
 u2_right n = (lit< tt, (mod-lt (n / 2 ^ 8) (lit< tt), (mod-lt n (lit< tt), tt)))
 
-pub main_code_right : (n : ℕ) → n ≤ 1000 → IsRightCode (record { max_stack = 1; max_locals = 1; pieces = main_pieces n; stack_map = None })
+pub main_code_right : (n : ℕ) → n ≤ 1000 → IsRightCodePlan (record { max_stack = 1; max_locals = 1; pieces = main_pieces n; stack_map = None })
 unfolding main_pieces
 main_code_right n few =
     let rest : List Piece = flat_map call_of (called n) ++ main_end in

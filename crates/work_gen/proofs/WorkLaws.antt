@@ -8,7 +8,7 @@ use Rattle.descriptors.specs.Names.{is_instance_initializer}
 use Rattle.class_making.specs.declared.item.Item.TheVariants.{Text}
 use Rattle.class_making.specs.declared.plan.MethodPlan.{MethodPlan}
 use Rattle.class_making.specs.Plans.{piece_mentions, method_mentions, plan_mentions, bare_class, items_of}
-use Rattle.class_making.specs.Right.{IsRightMention, IsRightMethod, method_signature, AreDistinct}
+use Rattle.class_making.specs.Right.{IsRightMention, IsRightMethodPlan, method_signature, HaveOwnSignatures}
 use Rattle.class_making.specs.Laws.{PlansAreClasses, ClassesSayPlans, PlansHaveBytes, ItemsAreFew}
 use Rattle.core_classes.specs.Core.{object_name, open_class}
 use Rattle.core_classes.proofs.RightLemmas.{pool_text, main_types, takes_few, text_right, public_access, plain_method}
@@ -37,7 +37,7 @@ adder_mention_count : (k : ℕ) → length (method_mentions (adder k)) ≤ 5
 unfolding adder adder_code
 adder_mention_count k = omega (arith, length-append (flat_map piece_mentions (adder_pieces k)) (Text (codes "StackMapTable") ∷ []), adder_count k)
 
-adder_right : (k : ℕ) → k ≤ 1000 → IsRightMethod open_class (adder k)
+adder_right : (k : ℕ) → k ≤ 1000 → IsRightMethodPlan open_class (adder k)
 unfolding adder
 adder_right k few = record {
   flags = lit< tt;
@@ -65,7 +65,7 @@ main_mention_count : (n : ℕ) → length (method_mentions (main_method n)) ≤ 
 unfolding main_method
 main_mention_count n = omega (arith, main_count n)
 
-main_right : (n : ℕ) → n ≤ 1000 → IsRightMethod open_class (main_method n)
+main_right : (n : ℕ) → n ≤ 1000 → IsRightMethodPlan open_class (main_method n)
 unfolding main_method
 main_right n few =
     plain_method open_class 0x0009 (codes "main") (codes "([Ljava/lang/String;)V") 1 1 (main_pieces n) (lit< tt) (refl, refl) refl main_types (public_access 0x0009 refl refl) refl refl (main_code_right n few)
@@ -84,7 +84,7 @@ adders_count [] rest = omega arith
 adders_count (k ∷ ks) rest =
     omega (arith, length-append (method_mentions (adder k)) (flat_map method_mentions (map adder ks ++ rest)), adder_mention_count k, adders_count ks rest)
 
-adders_right : (ks : List ℕ) (rest : List MethodPlan) → AllByRecursion IsFew ks → AllByRecursion (IsRightMethod open_class) rest → AllByRecursion (IsRightMethod open_class) (map adder ks ++ rest)
+adders_right : (ks : List ℕ) (rest : List MethodPlan) → AllByRecursion IsFew ks → AllByRecursion (IsRightMethodPlan open_class) rest → AllByRecursion (IsRightMethodPlan open_class) (map adder ks ++ rest)
 adders_right [] rest h r = r
 adders_right (k ∷ ks) rest h r = (adder_right k h.0, adders_right ks rest h.1 r)
 
@@ -107,7 +107,7 @@ apart_from_each : (m : MethodPlan) (ks : List ℕ) (rest : List MethodPlan) → 
 apart_from_each m [] rest h r = r
 apart_from_each m (k ∷ ks) rest h r = (h.0, apart_from_each m ks rest h.1 r)
 
-distinct_from : (a n i : ℕ) → a + i ≤ 1001 → AreDistinct method_signature (map adder (range_with_len a i) ++ main_method n ∷ [])
+distinct_from : (a n i : ℕ) → a + i ≤ 1001 → HaveOwnSignatures method_signature (map adder (range_with_len a i) ++ main_method n ∷ [])
 distinct_from a n zero few = (tt, tt)
 distinct_from a n (suc i) few =
     let here : a ≤ 1000 = omega arith in

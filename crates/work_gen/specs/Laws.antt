@@ -7,7 +7,7 @@ use Rattle.class_making.specs.Laws.{HasBytes, SaysPlan}
 use Rattle.loop_bounds.specs.declared.BoundsFault.{BoundsFault}
 use Rattle.loop_bounds.specs.declared.BoundsFault.TheVariants.{NoMemory}
 use Rattle.loop_bounds.specs.Bounds.{LoopBound, bound_in}
-use Rattle.loop_bounds.specs.Grammar.{IsRead, IsRefused}
+use Rattle.loop_bounds.specs.Grammar.{IsRead, AreBoundsRefused}
 use Rattle.work_gen.specs.Work.{turns_of, work_plan, work, bounds_text}
 use Rattle.work_gen.specs.Bounds.{adder_text, adder_bounds}
 
@@ -28,7 +28,7 @@ BoundsAreRead = (n : ℕ) → n ≤ 1000 → IsRead (bounds_text n) (adder_bound
 -- so who reads it has these bounds, or no memory
 abbrev pub OnlyTheseAreRead : Type 0
 OnlyTheseAreRead = (n : ℕ) → n ≤ 1000 → ((bs : List LoopBound) → IsRead (bounds_text n) bs → bs ≡ adder_bounds n)
-    × ((fault : BoundsFault) → IsRefused (bounds_text n) fault → fault ≡ NoMemory)
+    × ((fault : BoundsFault) → AreBoundsRefused (bounds_text n) fault → fault ≡ NoMemory)
 
 -- the loop of each adder has a bound among them, as often as it goes round
 abbrev pub EachLoopIsBounded : Type 0

@@ -1,7 +1,7 @@
 //! What the lines of a certificate say, read.
 ghost use Rattle.std.specs.Prelude.{◌++◌, IfOk, codes, if◌then◌else◌};
 ghost use Rattle.bound_cert.specs.Finding.{Finds, FindsAs};
-ghost use Rattle.bound_cert.specs.CertLines.{line_text, IsInRange};
+ghost use Rattle.bound_cert.specs.CertLines.{line_text, IsLineInRange};
 ghost use Rattle.bound_cert.specs.Rests.{node_rest, IsNodeRest, loop_rest, IsLoopRest, IsFrame};
 
 use crate::line_reader::kind::{bound, kind, version};
@@ -14,7 +14,7 @@ use std::alloc::Global;
 
 /// What the line says, if it is one of a certificate.
 pub fn read_line(alloc: Global, line: &[u8]) -> Result<Option<CertLine>, NoMemory>
-    ensures { IfOk result (Finds line_text IsInRange line.now) }
+    ensures { IfOk result (Finds line_text IsLineInRange line.now) }
 {
     if let Some(rest) = line.strip_prefix(b"node ") {
         return Ok(node_line(rest));
@@ -33,7 +33,7 @@ pub fn read_line(alloc: Global, line: &[u8]) -> Result<Option<CertLine>, NoMemor
 
 /// What the line says, if it is one of a certificate, and none of a node or a loop.
 fn read_frame(line: &[u8]) -> Option<CertLine>
-    ensures { Finds line_text (λ said. IsInRange said × IsFrame said) line.now result }
+    ensures { Finds line_text (λ said. IsLineInRange said × IsFrame said) line.now result }
 {
     if let Some(rest) = line.strip_prefix(b"section ") {
         return section_line(rest);
@@ -51,33 +51,33 @@ fn read_frame(line: &[u8]) -> Option<CertLine>
 }
 
 fn version_line(rest: &[u8]) -> Option<CertLine>
-    ensures { Finds line_text IsInRange (codes "JOPC " ++ rest.now) result }
+    ensures { Finds line_text IsLineInRange (codes "JOPC " ++ rest.now) result }
 {
     Some(CertLine::Version(version(rest)?))
 }
 
 fn root_line(rest: &[u8]) -> Option<CertLine>
-    ensures { Finds line_text IsInRange (codes "root " ++ rest.now) result }
+    ensures { Finds line_text IsLineInRange (codes "root " ++ rest.now) result }
 {
     Some(CertLine::Root(method(rest)?))
 }
 
 fn section_line(rest: &[u8]) -> Option<CertLine>
-    ensures { Finds line_text IsInRange (codes "section " ++ rest.now) result }
+    ensures { Finds line_text IsLineInRange (codes "section " ++ rest.now) result }
 {
     let (word, number) = cut(rest)?;
     Some(CertLine::Start(kind(word)?, method(number)?))
 }
 
 fn node_line(rest: &[u8]) -> Option<CertLine>
-    ensures { Finds line_text IsInRange (codes "node " ++ rest.now) result }
+    ensures { Finds line_text IsLineInRange (codes "node " ++ rest.now) result }
 {
     let (place, potential) = potential_at(rest)?;
     Some(CertLine::Node(2 * place, potential))
 }
 
 fn raise_line(rest: &[u8]) -> Option<CertLine>
-    ensures { Finds line_text IsInRange (codes "raise " ++ rest.now) result }
+    ensures { Finds line_text IsLineInRange (codes "raise " ++ rest.now) result }
 {
     let (place, potential) = potential_at(rest)?;
     Some(CertLine::Node(2 * place + 1, potential))
@@ -92,7 +92,7 @@ fn potential_at(text: &[u8]) -> Option<(u32, i128)>
 }
 
 fn loop_line(alloc: Global, rest: &[u8], region: bool) -> Result<Option<CertLine>, NoMemory>
-    ensures { IfOk result (Finds line_text IsInRange ((if region then codes "region " else codes "loop ") ++ rest.now)) }
+    ensures { IfOk result (Finds line_text IsLineInRange ((if region then codes "region " else codes "loop ") ++ rest.now)) }
 {
     let Some((header, cost, text)) = loop_parts(rest) else {
         return Ok(None);
@@ -123,7 +123,7 @@ fn loop_parts(text: &[u8]) -> Option<(u32, u64, &[u8])>
 }
 
 fn bound_line(rest: &[u8]) -> Option<CertLine>
-    ensures { Finds line_text IsInRange (codes "bound " ++ rest.now) result }
+    ensures { Finds line_text IsLineInRange (codes "bound " ++ rest.now) result }
 {
     Some(CertLine::Bound(bound(rest)?))
 }

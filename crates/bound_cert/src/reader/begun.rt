@@ -2,7 +2,7 @@
 ghost use Rattle.std.specs.Prelude.{◌≡◌, ◌↔◌, [], None, IfOk, OnOk, IsTrue, MatchOption};
 ghost use Rattle.bound_cert.specs.declared.lines.line.SectionKind.TheVariants.{Loops};
 ghost use Rattle.bound_cert.specs.declared.lines.line.CertLine.TheVariants.{Start, Node, Loop, Bound};
-ghost use Rattle.bound_cert.specs.CertLines.{IsBoundValue, IsInRange};
+ghost use Rattle.bound_cert.specs.CertLines.{IsBoundValue, IsLineInRange};
 ghost use Rattle.section_check.specs.Section.{IsPotential};
 ghost use Rattle.bound_cert.specs.Loop.{IsLoopSaid};
 ghost use Rattle.bound_cert.specs.Drafts.{Begun as BegunDraft, IsDraft, GoesOn, empty_section};
@@ -46,7 +46,7 @@ impl Begun {
     pub(crate) fn add(self, alloc: Global, said: CertLine) -> Result<Option<Reading>, NoMemory>
         requires kept { AreKept self }
         requires draft { IsDraft (begun_draft self) }
-        requires range { IsInRange said }
+        requires range { IsLineInRange said }
         ensures { IfOk result (λ next. MatchOption next (¬ GoesOn (begun_draft self) said) (GivesNext (begun_draft self) said)) }
     {
         match said {

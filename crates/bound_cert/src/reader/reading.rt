@@ -1,6 +1,6 @@
 //! A certificate as it is read, line by line.
 ghost use Rattle.std.specs.Prelude.{◌≡◌, IfOk, MatchOption};
-ghost use Rattle.bound_cert.specs.CertLines.{IsVersion, IsInRange};
+ghost use Rattle.bound_cert.specs.CertLines.{IsVersion, IsLineInRange};
 ghost use Rattle.bound_cert.specs.Drafts.{Blank, Versioned, Refuses, GoesOn};
 ghost use Rattle.bound_cert.specs.Steps.{draft_of, IsReading, GivesNext, AddsNext};
 
@@ -38,7 +38,7 @@ impl Reading {
     /// What they give with what one line more says, if a certificate goes on so.
     fn add(self, alloc: Global, said: CertLine) -> Result<Option<Reading>, NoMemory>
         requires reading { IsReading self }
-        requires range { IsInRange said }
+        requires range { IsLineInRange said }
         ensures { IfOk result (λ next. MatchOption next (¬ GoesOn (draft_of self) said) (GivesNext (draft_of self) said)) }
     {
         match self {
@@ -52,7 +52,7 @@ impl Reading {
 
 /// What the first line gives.
 fn first(said: CertLine) -> Option<Reading>
-    requires { IsInRange said }
+    requires { IsLineInRange said }
     ensures { MatchOption result (¬ GoesOn Blank said) (GivesNext Blank said) }
 {
     match said {
@@ -64,7 +64,7 @@ fn first(said: CertLine) -> Option<Reading>
 /// What the line behind the version gives.
 fn second(alloc: Global, version: u32, said: CertLine) -> Option<Reading>
     requires version { IsVersion version }
-    requires range { IsInRange said }
+    requires range { IsLineInRange said }
     ensures { MatchOption result (¬ GoesOn (Versioned version) said) (GivesNext (Versioned version) said) }
 {
     match said {

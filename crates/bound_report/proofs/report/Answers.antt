@@ -6,7 +6,7 @@ use Rattle.wcet.specs.declared.ending.MethodBound.TheVariants.{Printed}
 use Rattle.wcet.specs.Ending.{IsMethodBound}
 use Rattle.wcet.specs.Known.{BoundSetting, bounds_in, ForEach}
 use Rattle.wcet.specs.Methods.{AreMethodsFound}
-use Rattle.wcet.specs.Ready.{AreReady, IsReady, IsSizeCause, IsWantOfMemory}
+use Rattle.wcet.specs.Ready.{AreReady, IsReadyOrder, IsSizeCause, IsWantOfMemory}
 use Rattle.wcet.proofs.Certifying.{want_is_cause}
 use Rattle.wcet.proofs.Ordering.{are_ready}
 use Rattle.bound_report.specs.Report.{IsReportOf}
@@ -25,7 +25,7 @@ returns-in_err-found-clause-cause c =
 
 pub report_of-requires-clause-found : goal.report_of-requires-clause-found
 report_of-requires-clause-found c =
-    let S : BoundSetting → Type 0 = λ s. ForEach s (λ P. IsReady P (bounds_in s) c.args.root c.args.order.now.methods) in
+    let S : BoundSetting → Type 0 = λ s. ForEach s (λ P. IsReadyOrder P (bounds_in s) c.args.root c.args.order.now.methods) in
     let F : List ℕ → Type 0 = λ ms. AreMethodsFound c.new-task.result ms c.in_ok-found.found in
     let A : List ℕ → Type 0 = λ ms. AreReadyIn c.new-task.result c.args.root ms c.in_ok-found.found in
     subst A (sym c.as_slice-2.ensures)

@@ -3,9 +3,9 @@ ghost use Rattle.std.specs.Prelude.{◌≡◌, ◌<◌, length, sum_by};
 ghost use Rattle.bytecode_model.specs.State.{State};
 ghost use Rattle.bytecode_model.specs.Sizes.{value_words};
 ghost use Rattle.machine_frames.specs.Shows.{IsRaising, EachRaising};
-ghost use Rattle.boundary.specs.Answers.{IsGoing};
+ghost use Rattle.boundary.specs.Answers.{HasFrames};
 ghost use Rattle.boundary.specs.Setting.{Setting};
-ghost use Rattle.boundary.specs.Session.{IsStateOf, EachState, EachTop};
+ghost use Rattle.boundary.specs.Session.{IsStateOf, EachShownState, EachShownTop};
 ghost use Rattle.boundary.specs.Opcodes.{next_opcode};
 
 use crate::laws::stages_agree;
@@ -18,8 +18,8 @@ use machine_frames::{frame_count, operand_words, raising_pc, running_pc, top_met
 impl<'a, const N: usize> Running<'a, N> {
     /// The number of the method whose frame is on top.
     pub fn method(&self) -> u32
-        requires { IsGoing self.now.mode }
-        ensures method { EachTop self.now (λ f. f.method ≡ result) }
+        requires { HasFrames self.now.mode }
+        ensures method { EachShownTop self.now (λ f. f.method ≡ result) }
         ensures known { result < length self.now.methods }
     {
         // The laws are for the proof.
@@ -32,8 +32,8 @@ impl<'a, const N: usize> Running<'a, N> {
     /// The place of its instruction.
     #[inline(always)]
     pub fn pc(&self) -> u32
-        requires { IsGoing self.now.mode }
-        ensures { EachTop self.now (λ f. f.pc ≡ result) }
+        requires { HasFrames self.now.mode }
+        ensures { EachShownTop self.now (λ f. f.pc ≡ result) }
     {
         // The laws are for the proof.
         fitting_states_are_well_formed();
@@ -46,7 +46,7 @@ impl<'a, const N: usize> Running<'a, N> {
 
     /// The opcode of its instruction. There is none while an object is raised.
     pub fn opcode(&self) -> Option<u8>
-        requires { IsGoing self.now.mode }
+        requires { HasFrames self.now.mode }
         ensures { (g : Setting) (s : State) → IsStateOf g self.now.methods self.now.machine s → next_opcode g.program s ≡ result }
     {
         // The laws are for the proof.
@@ -60,8 +60,8 @@ impl<'a, const N: usize> Running<'a, N> {
 
     /// How many frames there are.
     pub fn frames(&self) -> u32
-        requires { IsGoing self.now.mode }
-        ensures { EachState self.now (λ s. length s.frames ≡ result) }
+        requires { HasFrames self.now.mode }
+        ensures { EachShownState self.now (λ s. length s.frames ≡ result) }
     {
         // The laws are for the proof.
         fitting_states_are_well_formed();
@@ -72,8 +72,8 @@ impl<'a, const N: usize> Running<'a, N> {
 
     /// How many words the operands of the top frame take.
     pub fn operands(&self) -> u32
-        requires { IsGoing self.now.mode }
-        ensures { EachTop self.now (λ f. sum_by value_words f.operands ≡ result) }
+        requires { HasFrames self.now.mode }
+        ensures { EachShownTop self.now (λ f. sum_by value_words f.operands ≡ result) }
     {
         // The laws are for the proof.
         fitting_states_are_well_formed();

@@ -1,7 +1,7 @@
 //! Linked images read from their files.
 ghost use Rattle.std.specs.Prelude.{◌≡◌, ◌↔◌, IsTrue, MatchOption, IfOk, List, ℕ};
 ghost use Rattle.std.specs.List.{flat_map, AllByRecursion};
-ghost use Rattle.image_file.specs.Linked.{LinkedContent, IsHalf, IsWord, IsName, IsFile, u2, u4, name_bytes, file_bytes, IsLinkedFile, contents};
+ghost use Rattle.image_file.specs.Linked.{LinkedContent, IsHalfWord, IsWord, IsName, IsFile, u2, u4, name_bytes, file_bytes, IsLinkedFile, contents};
 ghost use Rattle.image_file.specs.Front.{FindsItem, AreFiles, AreRegions};
 
 use crate::linked::{LinkedFault, LinkedImage, MARK};
@@ -16,7 +16,7 @@ struct Regions<'a> {
 }
 
 fn u16_at(bytes: &[u8]) -> Option<(u16, &[u8])>
-    ensures { FindsItem (λ x. (x.0, x.1.now)) u2 IsHalf bytes.now result }
+    ensures { FindsItem (λ x. (x.0, x.1.now)) u2 IsHalfWord bytes.now result }
 {
     let (number, rest) = bytes.split_first_chunk::<2>()?;
     Some((u16::from_be_bytes(*number), rest))

@@ -1,7 +1,7 @@
 -- A sketch at an opcode's entry, with its lists opened.
 use Rattle.std.proofs.Common.{◌≡◌, ℕ, ◌≤◌, List, [], ◌∷◌, true, length, refl, sym, subst, arith}
 use Rattle.micro_flow.specs.declared.CostParams.{CostParams}
-use Rattle.jop_core.specs.State.{State}
+use Rattle.jop_core.specs.State.{MachineState}
 use Rattle.micro_sketch.specs.Sketch.{Sketch}
 use Rattle.micro_sketch.specs.Stands.{Env, Shaped}
 use Rattle.micro_sketch.specs.Row.{StandsAt}
@@ -39,7 +39,7 @@ eight_of _ l = absurd (omega arith)
 abbrev pub opened : (mpc : ℕ) → (x : Sketch) → Two x.under → Two x.above → Eight x.low → Sketch
 opened mpc x u a l = at mpc x.ar x.left x x.top x.next (u.a ∷ u.b ∷ u.rest) (a.a ∷ a.b ∷ a.rest) (l.a ∷ l.b ∷ l.c ∷ l.d ∷ l.e ∷ l.f ∷ l.g ∷ l.h ∷ l.rest) true
 
-pub opened_is : (n op : ℕ) (p : CostParams) (x : Sketch) (e : Env) (s : State) (mpc : ℕ) → StandsAt n p op x e s → mpc ≡ x.mpc → (u : Two x.under) (a : Two x.above) (l : Eight x.low) → opened mpc x u a l ≡ x
+pub opened_is : (n op : ℕ) (p : CostParams) (x : Sketch) (e : Env) (s : MachineState) (mpc : ℕ) → StandsAt n p op x e s → mpc ≡ x.mpc → (u : Two x.under) (a : Two x.above) (l : Eight x.low) → opened mpc x u a l ≡ x
 opened_is n op p x e s mpc t m u a l = λ i. record x {
   mpc = m i;
   under = sym u.is i;
@@ -63,7 +63,7 @@ pub record Entered (n mpc : ℕ) (x : Sketch) (e : Env) : Type 0 where
   pub shape : Shaped n (opened mpc x u a l)
   pub port : e.port ≡ 0
 
-pub entered : (n op : ℕ) (p : CostParams) (x : Sketch) (e : Env) (s : State) (mpc : ℕ) → StandsAt n p op x e s → mpc ≡ x.mpc → Entered n mpc x e
+pub entered : (n op : ℕ) (p : CostParams) (x : Sketch) (e : Env) (s : MachineState) (mpc : ℕ) → StandsAt n p op x e s → mpc ≡ x.mpc → Entered n mpc x e
 entered n op p x e s mpc t m =
     let under = t.under in let above = t.above in let low = t.shape.low in
     let u = two_of x.under (omega arith) in

@@ -3,7 +3,7 @@ use Rattle.std.proofs.Common.{◌≡◌, ℕ, ◌+◌, ◌%◌, ◌^◌, ◌<◌
 use Rattle.std.proofs.Math.Nat.{mod-eq_of_lt}
 use Rattle.std.proofs.lemmas.List.{drop-set-add}
 use Rattle.micro_flow.specs.declared.CostParams.{CostParams}
-use Rattle.jop_core.specs.State.{State}
+use Rattle.jop_core.specs.State.{MachineState}
 use Rattle.microcode_rom.specs.declared.addresses.TheConstants.{IDIV, IREM}
 use Rattle.micro_sketch.specs.Sketch.{Sketch, same_bool}
 use Rattle.micro_sketch.specs.Stands.{Env, Reaches, IsDone}
@@ -15,7 +15,7 @@ use Rattle.micro_sketch.proofs.PlainRows.RowRuns.{RaiseRun}
 use Rattle.micro_sketch.proofs.PlainRows.DivideRunning.{DivisionLaws, went}
 
 -- what the rows do, from what the sketch comes to
-pub comes_to_raise : (n op ar : ℕ) (p : CostParams) (x : Sketch) (e : Env) (s : State) (mpc : ℕ) → StandsAt n p op x e s → (o : Entered n mpc x e) → get_or x.low 30 0 < 2 ^ 32 →
+pub comes_to_raise : (n op ar : ℕ) (p : CostParams) (x : Sketch) (e : Env) (s : MachineState) (mpc : ℕ) → StandsAt n p op x e s → (o : Entered n mpc x e) → get_or x.low 30 0 < 2 ^ 32 →
     Reaches n (opened mpc x o.u o.a o.l) (raising ar x.left x x.next x.top o.u.a o.u.b o.u.rest (x.next ∷ o.a.b ∷ o.a.rest) o.l.c o.l.d o.l.e o.l.f o.l.g o.l.h o.l.rest true) e →
     RaiseRun n x e
 comes_to_raise n op ar p x e s mpc t o small run =
@@ -49,14 +49,14 @@ pub zero_taken : (d : ℕ) → d ≡ 0 → (same_bool true (d == 0) && true) ≡
 zero_taken d z = ap (λ b. b && true) (eq-eqb d 0 z)
 
 module _ (laws : DivisionLaws) where
-  pub idiv_to_raise : (n : ℕ) (p : CostParams) (x : Sketch) (e : Env) (s : State) → StandsAt n p 108 x e s → get_or x.low 30 0 < 2 ^ 32 → x.top ≡ 0 → RaiseRun n x e
+  pub idiv_to_raise : (n : ℕ) (p : CostParams) (x : Sketch) (e : Env) (s : MachineState) → StandsAt n p 108 x e s → get_or x.low 30 0 < 2 ^ 32 → x.top ≡ 0 → RaiseRun n x e
   idiv_to_raise n p x e s t small z =
       let o = entered n 108 p x e s IDIV t t.entry.at in
       let l = o.l in
       comes_to_raise n 108 4 p x e s IDIV t o small
       (went laws 14 (true ∷ []) n (opened IDIV x o.u o.a o.l) _ e o.shape o.port (idiv_raises x x.ar x.left x.top x.next o.u.a o.u.b o.a.a l.a l.b l.c l.d l.e l.f l.g l.h o.u.rest (o.a.b ∷ o.a.rest) l.rest) (zero_taken x.top z))
 
-  pub irem_to_raise : (n : ℕ) (p : CostParams) (x : Sketch) (e : Env) (s : State) → StandsAt n p 112 x e s → get_or x.low 30 0 < 2 ^ 32 → x.top ≡ 0 → RaiseRun n x e
+  pub irem_to_raise : (n : ℕ) (p : CostParams) (x : Sketch) (e : Env) (s : MachineState) → StandsAt n p 112 x e s → get_or x.low 30 0 < 2 ^ 32 → x.top ≡ 0 → RaiseRun n x e
   irem_to_raise n p x e s t small z =
       let o = entered n 112 p x e s IREM t t.entry.at in
       let l = o.l in

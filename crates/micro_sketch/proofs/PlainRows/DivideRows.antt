@@ -3,7 +3,7 @@ use Rattle.std.proofs.Common.{◌≡◌, ◌-◌, ◌≢◌, ℕ, ◌/◌, ◌^�
 use Rattle.std.proofs.Math.Nat.{div-eq_of_lt}
 use Rattle.micro_flow.specs.declared.CostParams.{CostParams}
 use Rattle.jop_core.specs.declared.halt.Halt.TheVariants.{Running}
-use Rattle.jop_core.specs.State.{State}
+use Rattle.jop_core.specs.State.{MachineState}
 use Rattle.microcode_rom.specs.declared.addresses.TheConstants.{DIVIDE_SIGNS, DIVIDE_TURN, IDIV, IREM, LADD}
 use Rattle.micro_sketch.specs.Sketch.{Sketch, same_bool, lead}
 use Rattle.micro_sketch.specs.Stands.{Env, Shaped, Reaches, IsDone}
@@ -48,7 +48,7 @@ abbrev pub finished : (ar word : ℕ) → (left : ℕ → ℕ) → Sketch → (x
 finished ar word left f x y j s js low = lead true (at (LADD - 1) ar left f word x (y ∷ s) (x ∷ j ∷ js) low true)
 
 -- what the rows do, from what the sketch comes to
-pub row_by : (n op ar : ℕ) (p : CostParams) (x : Sketch) (e : Env) (s : State) (mpc : ℕ) → StandsAt n p op x e s → (o : Entered n mpc x e) → (word : ℕ) (left : ℕ → ℕ) (j a b c d k q r t : ℕ) (js : List ℕ) →
+pub row_by : (n op ar : ℕ) (p : CostParams) (x : Sketch) (e : Env) (s : MachineState) (mpc : ℕ) → StandsAt n p op x e s → (o : Entered n mpc x e) → (word : ℕ) (left : ℕ → ℕ) (j a b c d k q r t : ℕ) (js : List ℕ) →
     Reaches n (opened mpc x o.u o.a o.l) (finished ar word left x o.u.a o.u.b j o.u.rest js (a ∷ b ∷ c ∷ d ∷ k ∷ q ∷ r ∷ t ∷ o.l.rest)) e → RowRun n (results_in word x) x e
 row_by n op ar p x e s mpc t o word left j a b c d k q r u js run =
     let y = finished ar word left x o.u.a o.u.b j o.u.rest js (a ∷ b ∷ c ∷ d ∷ k ∷ q ∷ r ∷ u ∷ o.l.rest) in
@@ -83,7 +83,7 @@ row_by n op ar p x e s mpc t o word left j a b c d k q r u js run =
     }
 
 -- the branch at the end of the loop may be taken 31 times
-pub turns_enough : (n op : ℕ) (p : CostParams) (x : Sketch) (e : Env) (s : State) → StandsAt n p op x e s → 31 ≤ x.left (DIVIDE_SIGNS - 1)
+pub turns_enough : (n op : ℕ) (p : CostParams) (x : Sketch) (e : Env) (s : MachineState) → StandsAt n p op x e s → 31 ≤ x.left (DIVIDE_SIGNS - 1)
 turns_enough n op p x e s t = let h : 31 ≡ x.left (DIVIDE_SIGNS - 1) = ap (λ (f : ℕ → ℕ). f (DIVIDE_SIGNS - 1)) t.entry.turns in omega arith
 
 module _ (laws : DivisionLaws) where
@@ -105,7 +105,7 @@ module _ (laws : DivisionLaws) where
       record { left = l.left; k = l.k; t = l.t; j = l.j; reaches = subst (λ r. Reaches n from (end r (quotient a b)) e) signs.1 (subst (λ q. Reaches n from (end (signed_remainder l.r a) q) e) signs.0 all) }
 
   -- from the head of the loop to the next opcode, with the word of AR's place
-  pub divides_from : (n op ar : ℕ) (p : CostParams) (x : Sketch) (e : Env) (s : State) (mpc word : ℕ) → StandsAt n p op x e s → CanDivide x → (o : Entered n mpc x e) → ar < 32 →
+  pub divides_from : (n op ar : ℕ) (p : CostParams) (x : Sketch) (e : Env) (s : MachineState) (mpc word : ℕ) → StandsAt n p op x e s → CanDivide x → (o : Entered n mpc x e) → ar < 32 →
       ((k t : ℕ) (low : List ℕ) → get_or (results x.next x.top k t low) ar 0 ≡ word) →
       Reaches n (opened mpc x o.u o.a o.l) (head_of ar x x.left o.u.a o.u.b 1 x.next x.top o.l.h o.u.rest (o.a.b ∷ o.a.rest) o.l.rest) e → RowRun n (results_in word x) x e
   divides_from n op ar p x e s mpc word t can o small is first =
@@ -123,14 +123,14 @@ module _ (laws : DivisionLaws) where
       subst (λ i. RowRun n (results_in i x) x e) (is w.k w.t o.l.rest)
       (row_by n op ar p x e s mpc t o result w.left w.j (magnitude x.next) (magnitude x.top) (remainder x.next x.top) w.k (quotient x.next x.top) (sign_of x.next) (sign_of x.top) w.t js (followed_by laws n from end y e two last (refl {a = false})))
 
-  pub idiv_divides : (n : ℕ) (p : CostParams) (x : Sketch) (e : Env) (s : State) → StandsAt n p 108 x e s → CanDivide x → RowRun n (results_in (quotient x.next x.top) x) x e
+  pub idiv_divides : (n : ℕ) (p : CostParams) (x : Sketch) (e : Env) (s : MachineState) → StandsAt n p 108 x e s → CanDivide x → RowRun n (results_in (quotient x.next x.top) x) x e
   idiv_divides n p x e s t can =
       let o = entered n 108 p x e s IDIV t t.entry.at in
       let l = o.l in
       divides_from n 108 4 p x e s IDIV (quotient x.next x.top) t can o (omega arith) (λ k t low. refl)
       (went laws 36 (false ∷ []) n (opened IDIV x o.u o.a l) _ e o.shape o.port (from_idiv x x.ar x.left x.top x.next o.u.a o.u.b o.a.a l.a l.b l.c l.d l.e l.f l.g l.h o.u.rest (o.a.b ∷ o.a.rest) l.rest) (not_taken x.top can.not_zero))
 
-  pub irem_divides : (n : ℕ) (p : CostParams) (x : Sketch) (e : Env) (s : State) → StandsAt n p 112 x e s → CanDivide x → RowRun n (results_in (remainder x.next x.top) x) x e
+  pub irem_divides : (n : ℕ) (p : CostParams) (x : Sketch) (e : Env) (s : MachineState) → StandsAt n p 112 x e s → CanDivide x → RowRun n (results_in (remainder x.next x.top) x) x e
   irem_divides n p x e s t can =
       let o = entered n 112 p x e s IREM t t.entry.at in
       let l = o.l in

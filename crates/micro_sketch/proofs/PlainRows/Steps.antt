@@ -1,7 +1,7 @@
 -- The row of a plain opcode, or the way to the raise routine, from the sketch as it stands at the entry.
 use Rattle.std.proofs.Common.{◌≡◌, ◌≢◌, ℕ, ◌==◌, true, false, sym, subst, ◌∙◌, eq-eqb, eqb-true}
 use Rattle.micro_flow.specs.declared.CostParams.{CostParams}
-use Rattle.jop_core.specs.State.{State}
+use Rattle.jop_core.specs.State.{MachineState}
 use Rattle.micro_sketch.specs.Sketch.{Sketch}
 use Rattle.micro_sketch.specs.Stands.{Env}
 use Rattle.micro_sketch.specs.Row.{StandsAt, Effect}
@@ -38,7 +38,7 @@ can_divide x h other = record { dividend = h.dividend; divisor = h.divisor; not_
 
 module _ (laws : AreRowLaws) (divides : DivisionLaws) where
   -- a row by computing, from the sketch as it stands at the entry
-  computed : (n : ℕ) (p : CostParams) (code : ℕ) (f : Sketch → Effect) (x : Sketch) (e : Env) (s : State) → StandsAt n p code x e s → Row code f x → RowRun n (f x) x e
+  computed : (n : ℕ) (p : CostParams) (code : ℕ) (f : Sketch → Effect) (x : Sketch) (e : Env) (s : MachineState) → StandsAt n p code x e s → Row code f x → RowRun n (f x) x e
   computed n p code f x e s stands row =
       let P : Sketch → Type 0 = λ z. Makes (f z) z in
       let m = subst P (sym (laws.enters n p code x e s stands)) row in
@@ -46,7 +46,7 @@ module _ (laws : AreRowLaws) (divides : DivisionLaws) where
       record { after = end_of x g; reaches = laws.finish_runs n p code x e s stands g; done = g.done; follows = m.follows }
 
   -- where no opcode raises
-  pub row_run : (n : ℕ) (p : CostParams) (op : PlainOp) (x : Sketch) (e : Env) (s : State) → StandsAt n p (code_of op) x e s → IsReady op x → raises op x ≡ false → RowRun n (effect op x) x e
+  pub row_run : (n : ℕ) (p : CostParams) (op : PlainOp) (x : Sketch) (e : Env) (s : MachineState) → StandsAt n p (code_of op) x e s → IsReady op x → raises op x ≡ false → RowRun n (effect op x) x e
   row_run n p (OfNumber op) x e s stands ready calm = computed n p (number_code op) (number_effect op) x e s stands (number_row op x)
   row_run n p (OfLocal op) x e s stands ready calm =
       let Q : Sketch → Type 0 = λ z. local_ready op z in
@@ -69,7 +69,7 @@ module _ (laws : AreRowLaws) (divides : DivisionLaws) where
       computed n p 196 (wide_effect op) x e s stands (wide_row op x (subst Q (laws.enters n p 196 x e s stands) ready))
 
   -- and where one does
-  pub raise_run : (n : ℕ) (p : CostParams) (op : PlainOp) (x : Sketch) (e : Env) (s : State) → StandsAt n p (code_of op) x e s → IsReady op x → raises op x ≡ true → RaiseRun n x e
+  pub raise_run : (n : ℕ) (p : CostParams) (op : PlainOp) (x : Sketch) (e : Env) (s : MachineState) → StandsAt n p (code_of op) x e s → IsReady op x → raises op x ≡ true → RaiseRun n x e
   raise_run n p (OfNumber op) x e s stands ready hot = cc
   raise_run n p (OfLocal op) x e s stands ready hot = cc
   raise_run n p (OfStack op) x e s stands ready hot = cc

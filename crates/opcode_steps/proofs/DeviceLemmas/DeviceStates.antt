@@ -1,6 +1,6 @@
 -- The opcodes of devices, from the step to where the machine stands for the next state.
-use Rattle.std.proofs.Common.{◌≡◌, ◌⊎◌, ℕ, suc, ◌+◌, ◌-◌, ◌%◌, ◌^◌, ◌<◌, ◌==◌, ◌||◌, Bool, true, false, ℤ, pos, negsuc, List, [], ◌∷◌, ◌++◌, Option, Some, None, inl, inr, ⊎_elim, length, drop, reverse, refl, sym, ap, ◌∙◌, subst, arith, append-nil, eqb-true}
-use Rattle.std.specs.Prelude.{IsTrue, IsSomeAnd, FitsSigned}
+use Rattle.std.proofs.Common.{◌≡◌, ◌⊎◌, ℕ, suc, ◌+◌, ◌-◌, ◌%◌, ◌^◌, ◌<◌, ◌==◌, false, ℤ, pos, negsuc, List, [], ◌∷◌, ◌++◌, Option, Some, None, ⊎_elim, length, drop, reverse, refl, sym, ap, ◌∙◌, subst, arith, append-nil, eqb-true}
+use Rattle.std.specs.Prelude.{FitsSigned}
 use Rattle.std.specs.Int.{w8, w32, int_wrap, cast_signed, cast_unsigned}
 use Rattle.std.proofs.lemmas.Int.{of_z-to_z}
 use Rattle.std.proofs.lemmas.List.Sums.{sum_by-cons}
@@ -33,10 +33,10 @@ use Rattle.bytecode_model.specs.Table.{row_of}
 use Rattle.bytecode_model.specs.Effects.{Effect, Give, on_number}
 use Rattle.bytecode_model.specs.Steps.{applied, answered, with_top}
 use Rattle.bytecode_model.specs.WellFormed as formed
-use Rattle.bytecode_model.specs.WellFormed.{AreValues, IsWellFormed}
+use Rattle.bytecode_model.specs.WellFormed.{AreValues}
 use Rattle.image_facts.specs.Words.{int_word}
 use Rattle.image_facts.specs.Places.{Places, object_place, end_of, pool_of}
-use Rattle.machine_stands.specs.Frames.{FrameWords, IsWordOf, AreLocals, AreOperands, AreFrames}
+use Rattle.machine_stands.specs.Frames.{FrameWords, IsWordOf, AreLocals, AreOperands, AreWordsOfFrames}
 use Rattle.machine_stands.specs.StandsFor.{limits_of, memory_of}
 use Rattle.machine_stands.specs.Comes.{params, ComesTo}
 use Rattle.machine_stands.specs.Simulates.{IsStep, Simulates}
@@ -116,7 +116,7 @@ int_on_top P limits answer s f callers s' (Ref p ∷ rest) go h = absurd (none-s
 int_on_top P limits answer s f callers s' (Null ∷ rest) go h = absurd (none-some s' h)
 int_on_top P limits answer s f callers s' (Unset ∷ rest) go h = absurd (none-some s' h)
 
-module _ (laws : DeviceLaws) (P : Program) (pl : Places) (n size : ℕ) (m : machine.State) (answer : Option ℕ) (s s' : State) (h : IsStep P pl n size m answer s s') (mode : s.mode ≡ Running) where
+module _ (laws : DeviceLaws) (P : Program) (pl : Places) (n size : ℕ) (m : machine.MachineState) (answer : Option ℕ) (s s' : State) (h : IsStep P pl n size m answer s s') (mode : s.mode ≡ Running) where
   abbrev instr : DeviceOp → Instr
   instr op = plain_instr (code_of op) h.stands.body.code h.stands.top.pc (one Absent)
 
@@ -176,7 +176,7 @@ module _ (laws : DeviceLaws) (P : Program) (pl : Places) (n size : ℕ) (m : mac
         locals = subst (λ (os : List Object). AreLocals (object_place P pl os) h.stands.top.locals h.stands.words.locals) (sym (ap (λ (u : State). u.objects) next)) h.stands.are_frames.0.locals;
         operands = subst (λ (os : List Object). AreOperands (object_place P pl os) top.operands words.operands) (sym (ap (λ (u : State). u.objects) next))
             (laws.pushed place (answered answer) h.stands.top.operands (input_word answer) h.stands.words.operands (answer_is_short answer) (answer_word place answer) h.stands.are_frames.0.operands);
-        callers = subst (λ (os : List Object). AreFrames P pl (object_place P pl os) h.stands.callers h.stands.below) (sym (ap (λ (u : State). u.objects) next)) h.stands.are_frames.1;
+        callers = subst (λ (os : List Object). AreWordsOfFrames P pl (object_place P pl os) h.stands.callers h.stands.below) (sym (ap (λ (u : State). u.objects) next)) h.stands.are_frames.1;
         stack = ap (λ (ws : List ℕ). input_word answer ∷ ws) shown.words;
         deep = shown.deep;
         low = low_is answers (answered answer ∷ h.stands.top.operands) s' (ap (λ (u : State). u.objects) next) (ap (λ (u : State). u.frames) next);
@@ -219,7 +219,7 @@ module _ (laws : DeviceLaws) (P : Program) (pl : Places) (n size : ℕ) (m : mac
         saved = refl;
         locals = subst (λ (os : List Object). AreLocals (object_place P pl os) h.stands.top.locals h.stands.words.locals) (sym (ap (λ (u : State). u.objects) next)) h.stands.are_frames.0.locals;
         operands = subst (λ (os : List Object). AreOperands (object_place P pl os) rest one.others) (sym (ap (λ (u : State). u.objects) next)) one.stay;
-        callers = subst (λ (os : List Object). AreFrames P pl (object_place P pl os) h.stands.callers h.stands.below) (sym (ap (λ (u : State). u.objects) next)) h.stands.are_frames.1;
+        callers = subst (λ (os : List Object). AreWordsOfFrames P pl (object_place P pl os) h.stands.callers h.stands.below) (sym (ap (λ (u : State). u.objects) next)) h.stands.are_frames.1;
         stack = tails z.top one.word (z.next ∷ z.under) (one.others ++ reverse h.stands.words.saved) both;
         deep = shown.deep;
         low = low_is answers rest s' (ap (λ (u : State). u.objects) next) (ap (λ (u : State). u.frames) next);

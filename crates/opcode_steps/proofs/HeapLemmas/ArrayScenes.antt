@@ -74,7 +74,7 @@ pub record Scene (op : ℕ) : Type 0 where
   pub pl : Places
   pub n : ℕ
   pub size : ℕ
-  pub m : machine.State
+  pub m : machine.MachineState
   pub answer : Option ℕ
   pub s : State
   pub s' : State

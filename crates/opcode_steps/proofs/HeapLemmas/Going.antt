@@ -5,7 +5,7 @@ use Rattle.bytecode_model.specs.State.{Frame, State}
 use Rattle.bytecode_model.specs.Sizes.{frames_words}
 use Rattle.bytecode_model.specs.Steps.{with_top}
 use Rattle.image_facts.specs.Places.{end_of, pool_of}
-use Rattle.machine_stands.specs.Frames.{FrameWords, AreLocals, AreOperands, AreFrames}
+use Rattle.machine_stands.specs.Frames.{FrameWords, AreLocals, AreOperands, AreWordsOfFrames}
 use Rattle.machine_stands.specs.Comes.{params}
 use Rattle.machine_stands.specs.Again.{registers_of, GoesOn, RowsCome}
 use Rattle.machine_stands.specs.Shown.{SketchesShow}
@@ -31,7 +31,7 @@ writes_go_on shown come P pl n size m answer s s' h i r statics objects pc local
       saved = refl;
       locals = subst (λ (place : ℕ → ℕ). AreLocals place locals made.local_words) (sym stay.places) made.are_locals;
       operands = subst (λ (place : ℕ → ℕ). AreOperands place operands made.operand_words) (sym stay.places) made.are_operands;
-      callers = subst (λ (place : ℕ → ℕ). AreFrames P pl place st.callers st.below) (sym stay.places) st.are_frames.1;
+      callers = subst (λ (place : ℕ → ℕ). AreWordsOfFrames P pl place st.callers st.below) (sym stay.places) st.are_frames.1;
       stack = made.stack;
       deep = made.deep;
       low = low;

@@ -81,7 +81,7 @@ one_word place (Ref q) h = record { word = place q; words_are = refl; is = refl 
 one_word place Null h = record { word = 0; words_are = refl; is = refl }
 one_word place Unset h = record { word = 0; words_are = refl; is = tt }
 
-value_read : ReadLaws → (P : Program) (pl : Places) (n size : ℕ) (m : machine.State) (s : State) (place : ℕ) (v : Value) → StandsFor P pl n size m s → is_long v ≡ false
+value_read : ReadLaws → (P : Program) (pl : Places) (n size : ℕ) (m : machine.MachineState) (s : State) (place : ℕ) (v : Value) → StandsFor P pl n size m s → is_long v ≡ false
     → LieAt (words_with P pl s.statics s.objects) place (words_of (object_place P pl s.objects) v) → ReadsWord size m (object_place P pl s.objects) place v
 value_read laws P pl n size m s place v st short l =
     let w = one_word (object_place P pl s.objects) v short in

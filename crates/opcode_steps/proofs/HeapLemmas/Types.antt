@@ -42,7 +42,7 @@ there (Some x) h = (x, refl)
 
 -- ---- the record of a type
 
-module _ (words : FixedWordsAreRead) (P : Program) (pl : Places) (n size : ℕ) (m : machine.State) (s : State) (st : StandsFor P pl n size m s) (well : IsWellFormed P (limits_of P pl n size) s) (says : SaysLinked P pl) where
+module _ (words : FixedWordsAreRead) (P : Program) (pl : Places) (n size : ℕ) (m : machine.MachineState) (s : State) (st : StandsFor P pl n size m s) (well : IsWellFormed P (limits_of P pl n size) s) (says : SaysLinked P pl) where
   says_type : (t : ℕ) (k : Kind) → slice_get P.types t ≡ Some k → SaysType P pl t k
   says_type t k h = if_there (slice_get P.types t) k (SaysType P pl t) h (says.types t)
 

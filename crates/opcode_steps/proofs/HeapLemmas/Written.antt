@@ -78,7 +78,7 @@ long_written laws whole other place a b n d =
 same_words : (v w : Value) → is_long w ≡ is_long v → value_words w ≡ value_words v
 same_words v w e = ap (λ (b : Bool). if b then 2 else 1) e
 
-word_put : WriteLaws → (P : Program) (pl : Places) (n size : ℕ) (m : machine.State) (s t : State) (place : ℕ) (v w : Value) (word : ℕ) → StandsFor P pl n size m s → is_long v ≡ false → is_long w ≡ false → (w ≡ Unset → ⊥)
+word_put : WriteLaws → (P : Program) (pl : Places) (n size : ℕ) (m : machine.MachineState) (s t : State) (place : ℕ) (v w : Value) (word : ℕ) → StandsFor P pl n size m s → is_long v ≡ false → is_long w ≡ false → (w ≡ Unset → ⊥)
     → IsWordOf (object_place P pl s.objects) w word
     → DifferAt (words_with P pl s.statics s.objects) (words_with P pl t.statics t.objects) place (words_of (object_place P pl s.objects) v) (words_of (object_place P pl s.objects) w)
     → slice_set m.port.words place word ≡ memory_of P pl size t
@@ -90,7 +90,7 @@ word_put laws P pl n size m s t place v w word st short new set is d =
     ∙ word_written laws (memory_of P pl size s) (memory_of P pl size t) place (of v) word one
     (differ_padded size (words_with P pl s.statics s.objects) (words_with P pl t.statics t.objects) place (of v) (word ∷ []) laws.ahead there (sym one))
 
-long_put : WriteLaws → (P : Program) (pl : Places) (n size : ℕ) (m : machine.State) (s t : State) (place : ℕ) (old w : ℤ) → StandsFor P pl n size m s
+long_put : WriteLaws → (P : Program) (pl : Places) (n size : ℕ) (m : machine.MachineState) (s t : State) (place : ℕ) (old w : ℤ) → StandsFor P pl n size m s
     → DifferAt (words_with P pl s.statics s.objects) (words_with P pl t.statics t.objects) place (high_word old ∷ low_word old ∷ []) (high_word w ∷ low_word w ∷ [])
     → WritesLong m.port.words place w (memory_of P pl size t)
 long_put laws P pl n size m s t place old w st d =

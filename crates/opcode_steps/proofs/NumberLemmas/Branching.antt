@@ -46,7 +46,7 @@ pub record Branched (op : PlainOp) (x : Sketch) (words : List ℕ) (test : Bool)
 abbrev pub Branches : (op : PlainOp) (ts : List NumberType) → FunctionOf ts Bool → Type 0
 Branches op ts test = (x : Sketch) (ns : Numbers ts) (tail : List ℕ) → Fit ts ns → words_of x ≡ words_on ts ns tail → Branched op x tail (given Bool ts test ns)
 
-module _ (laws : Laws) (P : Program) (pl : Places) (n size : ℕ) (m : machine.State) (answer : Option ℕ) (s s' : State) (st : StandsFor P pl n size m s) (i : Instr) (r : Row) (x : Sketch)
+module _ (laws : Laws) (P : Program) (pl : Places) (n size : ℕ) (m : machine.MachineState) (answer : Option ℕ) (s s' : State) (st : StandsFor P pl n size m s) (i : Instr) (r : Row) (x : Sketch)
     (at : Scene P pl n size m answer s s' st i r x) where
   -- with the offset of 16 bits behind the opcode
   pub branches_to : (op : PlainOp) (b : Bool) (rest : List Value) (words others : List ℕ) → m.opcode ≡ code_of op → i.length ≡ 3 → Branched op x words b

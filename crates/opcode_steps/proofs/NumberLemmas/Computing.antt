@@ -42,7 +42,7 @@ Makes op ts t r = (x : Sketch) (ns : Numbers ts) (tail : List ℕ) → Fit ts ns
 pub tail_long : (others saved : List ℕ) → length saved ≡ 5 → 5 ≤ length (others ++ reverse saved)
 tail_long others saved h = omega (arith, length-append others (reverse saved), length-reverse saved)
 
-module _ (laws : Laws) (P : Program) (pl : Places) (n size : ℕ) (m : machine.State) (answer : Option ℕ) (s s' : State) (st : StandsFor P pl n size m s) (i : Instr) (r : Row) (x : Sketch)
+module _ (laws : Laws) (P : Program) (pl : Places) (n size : ℕ) (m : machine.MachineState) (answer : Option ℕ) (s s' : State) (st : StandsFor P pl n size m s) (i : Instr) (r : Row) (x : Sketch)
     (at : Scene P pl n size m answer s s' st i r x) where
   -- the numbers that it takes, and their words on top of the sketch's
   pub takes : (R : Type 0) (ts : List NumberType) (f : FunctionOf ts R) (go : R → List Value → Effect)

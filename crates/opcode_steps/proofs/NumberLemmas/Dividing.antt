@@ -77,7 +77,7 @@ divisor Irem (pos (suc n)) x h = some (λ (e : suc n ≡ 0). absurd (omega arith
 divisor Idiv (negsuc n) x h = let small = h.sfits in some (λ (e : 2 ^ 32 - suc n ≡ 0). absurd (omega arith)) refl
 divisor Irem (negsuc n) x h = let small = h.sfits in some (λ (e : 2 ^ 32 - suc n ≡ 0). absurd (omega arith)) refl
 
-module _ (laws : Laws) (P : Program) (pl : Places) (n size : ℕ) (m : machine.State) (answer : Option ℕ) (s s' : State) (st : StandsFor P pl n size m s) (i : Instr) (r : Row) (x : Sketch)
+module _ (laws : Laws) (P : Program) (pl : Places) (n size : ℕ) (m : machine.MachineState) (answer : Option ℕ) (s s' : State) (st : StandsFor P pl n size m s) (i : Instr) (r : Row) (x : Sketch)
     (at : Scene P pl n size m answer s s' st i r x) (exceptions : (pl.raise_list + 0 < size) × (slice_index m.port.words (pl.raise_list + 0) ≡ object_place P pl s.objects 0)) where
   list_is : slice_index x.low 30 ≡ pl.raise_list
   list_is = sym (get_or-drop 24 x.low 6 0) ∙ ap (λ (ws : List ℕ). slice_index ws 6) at.shows.low

@@ -28,7 +28,7 @@ two_bytes code bytes place = omega (arith, bytes place, bytes (place + 1))
 pub four_bytes : (code : List ℕ) → ((k : ℕ) → slice_index code k < 2 ^ 8) → (place : ℕ) → u4 code place < 2 ^ 32
 four_bytes code bytes place = omega (arith, two_bytes code bytes place, two_bytes code bytes (place + 2))
 
-module _ (P : Program) (pl : Places) (n size : ℕ) (m : machine.State) (answer : Option ℕ) (s s' : State) (st : StandsFor P pl n size m s) (i : Instr) (r : Row) (x : Sketch)
+module _ (P : Program) (pl : Places) (n size : ℕ) (m : machine.MachineState) (answer : Option ℕ) (s s' : State) (st : StandsFor P pl n size m s) (i : Instr) (r : Row) (x : Sketch)
     (at : Scene P pl n size m answer s s' st i r x) where
   -- the place that an offset leads to
   pub record Landed (offset : ℤ) (ops : List Value) : Type 0 where

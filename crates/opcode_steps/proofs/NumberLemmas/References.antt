@@ -37,7 +37,7 @@ TellsTwo code wanted = (x y : ℕ) (b : Bool) → Tells b x y → holds code y x
 abbrev TellsOne : (code : ℕ) → (wanted : Bool) → Type 0
 TellsOne code wanted = (below x : ℕ) (b : Bool) → Tells b x 0 → holds code below x ≡ same_bool b wanted
 
-module _ (laws : Laws) (P : Program) (pl : Places) (n size : ℕ) (m : machine.State) (answer : Option ℕ) (s s' : State) (st : StandsFor P pl n size m s) (i : Instr) (r : Row) (x : Sketch)
+module _ (laws : Laws) (P : Program) (pl : Places) (n size : ℕ) (m : machine.MachineState) (answer : Option ℕ) (s s' : State) (st : StandsFor P pl n size m s) (i : Instr) (r : Row) (x : Sketch)
     (at : Scene P pl n size m answer s s' st i r x) (says : Says P pl) (linked : P.linked ≡ true) where
   two : (op : PlainOp) (code : ℕ) (wanted : Bool) → m.opcode ≡ code_of op → i.length ≡ 3 → r ≡ rows.BranchSame wanted (s2 st.body.code (st.top.pc + 1)) → BranchesTwo op code → TellsTwo code wanted → ComesTo P pl n size m s s'
   two op code wanted opcode long is made tells =

@@ -56,7 +56,7 @@ pub record Laws : Type 0 where
 
 -- what is to be shown of an opcode
 abbrev pub Line : ℕ → Type 0
-Line op = (P : Program) (pl : Places) (n size : ℕ) (m : machine.State) (answer : Option ℕ) (s s' : State) → IsStep P pl n size m answer s s' → s.mode ≡ Running → m.opcode ≡ op
+Line op = (P : Program) (pl : Places) (n size : ℕ) (m : machine.MachineState) (answer : Option ℕ) (s s' : State) → IsStep P pl n size m answer s s' → s.mode ≡ Running → m.opcode ≡ op
     → (P.linked ≡ true) ⊎ IsTrue (is_bare op) → ComesTo P pl n size m s s'
 
 -- the top frame is well formed, and what is asked of its operands
@@ -70,7 +70,7 @@ pub code_of_body : (b : Body) (o : Option Body) → o ≡ Some b → IfSome o (�
 code_of_body b o is h = let C : Option Body → Type 0 = λ p. IfSome p (λ c. IsCode c.code) in subst C is h
 
 -- The machine as a sketch, at an instruction with a row, and how the row on the sketch ends.
-pub record Scene (P : Program) (pl : Places) (n size : ℕ) (m : machine.State) (answer : Option ℕ) (s s' : State) (st : StandsFor P pl n size m s) (i : Instr) (r : Row) (x : Sketch) : Type 0 where
+pub record Scene (P : Program) (pl : Places) (n size : ℕ) (m : machine.MachineState) (answer : Option ℕ) (s s' : State) (st : StandsFor P pl n size m s) (i : Instr) (r : Row) (x : Sketch) : Type 0 where
   pub instruction : IsAtRow P pl n size m answer s s' st i r
   pub shows : Shows P pl n size m s st (params m i.count 0) x
   pub code : IsCode st.body.code
@@ -85,7 +85,7 @@ pub record Scene (P : Program) (pl : Places) (n size : ℕ) (m : machine.State) 
   pub breaks : (object : ℕ) (f : rows.Raising) → effect P (limits_of P pl n size) s st.top (st.top.pc + i.length) r ≡ Raise object → LeavesFrame P pl n size m s st i object f
       → RunsToRaise n (params m i.count 0) m.opcode f x (env_of m) → ComesTo P pl n size m s s'
 
-pub scene : Laws → (P : Program) (pl : Places) (n size : ℕ) (m : machine.State) (answer : Option ℕ) (s s' : State) (h : IsStep P pl n size m answer s s') (i : Instr) (r : Row) → s.mode ≡ Running
+pub scene : Laws → (P : Program) (pl : Places) (n size : ℕ) (m : machine.MachineState) (answer : Option ℕ) (s s' : State) (h : IsStep P pl n size m answer s s') (i : Instr) (r : Row) → s.mode ≡ Running
     → IsAtRow P pl n size m answer s s' h.stands i r → Scene P pl n size m answer s s' h.stands i r (seen (params m i.count 0) (None ∷ []) m h.stands.words h.stands.below)
 scene laws P pl n size m answer s s' h i r mode at = record {
   instruction = at;
@@ -113,7 +113,7 @@ only_linked linked code either never = ⊎_elim (λ (e : linked ≡ true). e) (�
 abbrev pub placed : List ℕ → ℕ → Sketch → row.Effect
 placed words jpc x = record (unchanged x) { words = words; jpc = jpc }
 
-module _ (laws : Laws) (P : Program) (pl : Places) (n size : ℕ) (m : machine.State) (answer : Option ℕ) (s s' : State) (st : StandsFor P pl n size m s) (i : Instr) (r : Row) (x : Sketch)
+module _ (laws : Laws) (P : Program) (pl : Places) (n size : ℕ) (m : machine.MachineState) (answer : Option ℕ) (s s' : State) (st : StandsFor P pl n size m s) (i : Instr) (r : Row) (x : Sketch)
     (at : Scene P pl n size m answer s s' st i r x) where
   -- a plain opcode leaves other operands, and goes on at a place
   pub comes : (op : PlainOp) (pc : ℕ) (ops : List Value) (words : List ℕ) (jpc : ℕ) (ow : List ℕ) → m.opcode ≡ code_of op → IsReady op x → raises op x ≡ false

@@ -58,7 +58,7 @@ pub record ReadAt (code : List ℕ) (word : ℕ) (number : ℤ) : Type 0 where
   pub word_is : word ≡ u4 code place
   pub number_is : number ≡ s4 code place
 
-module _ (laws : Laws) (P : Program) (pl : Places) (n size : ℕ) (m : machine.State) (answer : Option ℕ) (s s' : State) (st : StandsFor P pl n size m s) (i : Instr) (r : Row) (x : Sketch)
+module _ (laws : Laws) (P : Program) (pl : Places) (n size : ℕ) (m : machine.MachineState) (answer : Option ℕ) (s s' : State) (st : StandsFor P pl n size m s) (i : Instr) (r : Row) (x : Sketch)
     (at : Scene P pl n size m answer s s' st i r x) where
   -- four bytes of the code
   word_read : (j : ℕ) → j + 4 ≤ length st.body.code → four_byte_operand (words.placed j x) ≡ u4 st.body.code j

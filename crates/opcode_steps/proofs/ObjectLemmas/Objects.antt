@@ -19,7 +19,7 @@ pub record ObjectLaws : Type 0 where
   pub lie : ObjectsLie
 
 -- the place of its type
-pub type_read : ObjectLaws → (P : Program) (pl : Places) (n size : ℕ) (m : machine.State) (s : State) (p : ℕ) (o : Object) → StandsFor P pl n size m s → IsWellFormed P (limits_of P pl n size) s → slice_get s.objects p ≡ Some o
+pub type_read : ObjectLaws → (P : Program) (pl : Places) (n size : ℕ) (m : machine.MachineState) (s : State) (p : ℕ) (o : Object) → StandsFor P pl n size m s → IsWellFormed P (limits_of P pl n size) s → slice_get s.objects p ≡ Some o
     → (object_place P pl s.objects p < size) × (slice_index m.port.words (object_place P pl s.objects p) ≡ pl.type o.kind)
 type_read laws P pl n size m s p o st well h =
     let place = object_place P pl s.objects p in

@@ -8,7 +8,7 @@ use Rattle.method_cache.specs.Contents.{Cache}
 use Rattle.micro_flow.specs.declared.CostParams.{CostParams}
 use Rattle.jop_core.specs.declared.halt.Halt.{Halt}
 use Rattle.jop_core.specs.declared.halt.Halt.TheVariants.{Running}
-use Rattle.jop_core.specs.State.{State}
+use Rattle.jop_core.specs.State.{MachineState}
 use Rattle.micro_sketch.specs.Sketch.{Sketch, exec}
 use Rattle.micro_sketch.specs.Stands.{Env, IsDone}
 use Rattle.micro_sketch.specs.Laws.{CostsHold}
@@ -128,7 +128,7 @@ pub raises_raw : (k : ℕ) (guesses : List Bool) (raw f : Raising) (x : Sketch) 
 raises_raw k guesses raw f x allowed h fine same = let P : Raising → Type 0 = λ g. MakesRaise g x in subst P same (raised k guesses raw x allowed h fine)
 
 -- such a row is a run of the machine, in at most its opcode's cost
-pub raise_runs : AreRowLaws → CostsHold → (n : ℕ) (p : CostParams) (op : ℕ) (f : Raising) (x : Sketch) (e : Env) (s : State) → StandsAt n p op x e s → MakesRaise f x → RunsToRaise n p op f x e
+pub raise_runs : AreRowLaws → CostsHold → (n : ℕ) (p : CostParams) (op : ℕ) (f : Raising) (x : Sketch) (e : Env) (s : MachineState) → StandsAt n p op x e s → MakesRaise f x → RunsToRaise n p op f x e
 raise_runs laws costs n p op f x e s h m =
     let g : Finishes x = record { words = m.words; guesses = m.guesses; done = m.done; loads = m.raises.kept.loads; loaded = m.raises.kept.loaded } in
     let reached = laws.finish_runs n p op x e s h g in

@@ -77,7 +77,7 @@ pub record Here (op : ℕ) (o : Operands) (j : ℕ) : Type 0 where
   pub pl : Places
   pub n : ℕ
   pub size : ℕ
-  pub m : machine.State
+  pub m : machine.MachineState
   pub answer : Option ℕ
   pub s : State
   pub t : State
@@ -91,7 +91,7 @@ pub record Here (op : ℕ) (o : Operands) (j : ℕ) : Type 0 where
 
 -- What is to be shown of an opcode.
 abbrev pub Line : ℕ → Type 0
-Line op = (P : Program) (pl : Places) (n size : ℕ) (m : machine.State) (answer : Option ℕ) (s t : State) → IsStep P pl n size m answer s t → s.mode ≡ Running → P.linked ≡ true → m.opcode ≡ op → ComesTo P pl n size m s t
+Line op = (P : Program) (pl : Places) (n size : ℕ) (m : machine.MachineState) (answer : Option ℕ) (s t : State) → IsStep P pl n size m answer s t → s.mode ≡ Running → P.linked ≡ true → m.opcode ≡ op → ComesTo P pl n size m s t
 
 abbrev pub Comes : {op : ℕ} {o : Operands} {j : ℕ} → Here op o j → Type 0
 Comes c = ComesTo c.P c.pl c.n c.size c.m c.s c.t

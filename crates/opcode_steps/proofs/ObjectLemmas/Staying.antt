@@ -8,7 +8,7 @@ use Rattle.bytecode_model.specs.Program.{Program, Body, body_of}
 use Rattle.bytecode_model.specs.WellFormed as formed
 use Rattle.bytecode_model.specs.WellFormed.{IsValue, AreValues}
 use Rattle.image_facts.specs.Places.{Places}
-use Rattle.machine_stands.specs.Frames.{AreLocals, AreOperands, FrameWords, AreFrames}
+use Rattle.machine_stands.specs.Frames.{AreLocals, AreOperands, FrameWords, AreWordsOfFrames}
 
 -- the first so many objects have the same places
 abbrev pub StayBelow : (objects : ℕ) (place place' : ℕ → ℕ) → Type 0
@@ -62,7 +62,7 @@ module _ (objects : ℕ) (place place' : ℕ → ℕ) (same : StayBelow objects 
   of_body P f None h = absurd h
   of_body P f (Some b) h = (h.local_values, h.operand_values)
 
-  pub frames_stay : (P : Program) (pl : Places) (fs : List Frame) (ws : List FrameWords) → formed.AreFrames P objects fs → AreFrames P pl place fs ws → AreFrames P pl place' fs ws
+  pub frames_stay : (P : Program) (pl : Places) (fs : List Frame) (ws : List FrameWords) → formed.AreFrames P objects fs → AreWordsOfFrames P pl place fs ws → AreWordsOfFrames P pl place' fs ws
   frames_stay P pl [] [] fit h = tt
   frames_stay P pl [] (w ∷ below) fit h = absurd h
   frames_stay P pl (f ∷ callers) [] fit h = absurd h

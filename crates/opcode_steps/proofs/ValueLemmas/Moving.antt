@@ -86,7 +86,7 @@ value_at objects [] k v h e = absurd (none-some v e)
 value_at objects (u ∷ vs) zero v h e = subst (λ (t : Value). formed.IsValue objects t) (some_same u v e) h.0
 value_at objects (u ∷ vs) (suc k) v h e = value_at objects vs k v h.1 e
 
-module _ (laws : Laws) (P : Program) (pl : Places) (n size : ℕ) (m : machine.State) (answer : Option ℕ) (s s' : State) (st : StandsFor P pl n size m s) (i : Instr) (op : PlainOp) (j : ℕ) (x : Sketch) where
+module _ (laws : Laws) (P : Program) (pl : Places) (n size : ℕ) (m : machine.MachineState) (answer : Option ℕ) (s s' : State) (st : StandsFor P pl n size m s) (i : Instr) (op : PlainOp) (j : ℕ) (x : Sketch) where
   at_local : (r : Row) (k : ℕ) → Scene P pl n size m answer s s' st i r op j x → k < length st.words.locals → HasAt k x (stacked st.below) st.words.locals
   at_local r k at less = has_at k x (stacked st.below) st.words.locals at.shows.vp at.shows.deep less
 

@@ -38,11 +38,11 @@ use Rattle.opcode_steps.proofs.ValueLemmas.Shapes.{one_byte, two_bytes}
 
 -- ---- the words of an entry, as the row reads them
 
-record ReadsPool (P : Program) (pl : Places) (m : machine.State) (method : ℕ) (index a : ℕ) (x : Sketch) : Type 0 where
+record ReadsPool (P : Program) (pl : Places) (m : machine.MachineState) (method : ℕ) (index a : ℕ) (x : Sketch) : Type 0 where
   first : pool_word x a ≡ slice_index m.port.words (pool_of P pl method + 2 * index)
   second : second_pool_word x a ≡ slice_index m.port.words (pool_of P pl method + 2 * index + 1)
 
-pool_read : (P : Program) (pl : Places) (n size : ℕ) (m : machine.State) (s s' : State) (answer : Option ℕ) (st : StandsFor P pl n size m s) (i : Instr) (r : Row) (op : NumberOp) (j : ℕ) (x : Sketch) (index a : ℕ)
+pool_read : (P : Program) (pl : Places) (n size : ℕ) (m : machine.MachineState) (s s' : State) (answer : Option ℕ) (st : StandsFor P pl n size m s) (i : Instr) (r : Row) (op : NumberOp) (j : ℕ) (x : Sketch) (index a : ℕ)
     → Scene P pl n size m answer s s' st i r (OfNumber op) j x → a ≡ index → pool_of P pl st.top.method + 2 * index + 1 < size → ReadsPool P pl m st.top.method index a x
 pool_read P pl n size m s s' answer st i r op j x index a at same within =
     let pool : slice_index x.low 24 ≡ pool_of P pl st.top.method = sym (get_or-drop 24 x.low 0 0) ∙ ap (λ (ws : List ℕ). slice_index ws 0) at.shows.low in
@@ -86,7 +86,7 @@ is_long_constant code i (AField c k e) r h = absurd (none-some r h)
 is_long_constant code i (AMethod c k) r h = absurd (none-some r h)
 is_long_constant code i (AType k) r h = absurd (none-some r h)
 
-module _ (laws : Laws) (P : Program) (pl : Places) (n size : ℕ) (m : machine.State) (answer : Option ℕ) (s s' : State) (h : IsStep P pl n size m answer s s') (i : Instr) (r : Row) (op : NumberOp) (j : ℕ) (x : Sketch) (index a : ℕ)
+module _ (laws : Laws) (P : Program) (pl : Places) (n size : ℕ) (m : machine.MachineState) (answer : Option ℕ) (s s' : State) (h : IsStep P pl n size m answer s s') (i : Instr) (r : Row) (op : NumberOp) (j : ℕ) (x : Sketch) (index a : ℕ)
     (at : Scene P pl n size m answer s s' h.stands i r (OfNumber op) j x) (same : a ≡ index) where
   -- an int or a string
   pushes_of_pool : (o : Operand) → P.operand h.stands.top.method h.stands.top.pc ≡ o → IsConstant o r → (o ≢ NoOperand → IsPoolEntry P pl size m i.op h.stands.top.method h.stands.top.pc index)

@@ -21,7 +21,7 @@ use Rattle.machine_stands.specs.StandsFor.{StandsFor, limits_of}
 use Rattle.machine_stands.specs.Comes.{ComesTo}
 use Rattle.opcode_steps.proofs.ValueLemmas.Scenes.{Laws, Scene, HasBytes, FromScene, moved, comes}
 
-module _ (laws : Laws) (P : Program) (pl : Places) (n size : ℕ) (m : machine.State) (answer : Option ℕ) (s s' : State) (st : StandsFor P pl n size m s) (i : Instr) (r : Row) (op : PlainOp) (j : ℕ) (x : Sketch) where
+module _ (laws : Laws) (P : Program) (pl : Places) (n size : ℕ) (m : machine.MachineState) (answer : Option ℕ) (s s' : State) (st : StandsFor P pl n size m s) (i : Instr) (r : Row) (op : PlainOp) (j : ℕ) (x : Sketch) where
   -- one of one word
   pub pushes_one : (v : Value) (word : ℕ) → Scene P pl n size m answer s s' st i r op j x → IsReady op x → plain.effect op x ≡ moved (word ∷ words_of x) x.deep j x
       → effect P (limits_of P pl n size) s st.top (st.top.pc + i.length) r ≡ Go (st.top.pc + i.length) st.top.locals (v ∷ st.top.operands)

@@ -53,7 +53,7 @@ pub record Laws : Type 0 where
 
 -- What is to be shown of an opcode, where the bytes at the instruction's place are such.
 abbrev pub LineWhere : ℕ → (List ℕ → ℕ → Type 0) → Type 0
-LineWhere op Where = (P : Program) (pl : Places) (n size : ℕ) (m : machine.State) (answer : Option ℕ) (s s' : State) (h : IsStep P pl n size m answer s s') → s.mode ≡ Running → m.opcode ≡ op
+LineWhere op Where = (P : Program) (pl : Places) (n size : ℕ) (m : machine.MachineState) (answer : Option ℕ) (s s' : State) (h : IsStep P pl n size m answer s s') → s.mode ≡ Running → m.opcode ≡ op
     → Where h.stands.body.code h.stands.top.pc → ComesTo P pl n size m s s'
 
 abbrev pub anywhere : List ℕ → ℕ → Type 0
@@ -64,7 +64,7 @@ Line op = LineWhere op anywhere
 
 -- the instruction of the opcode is such
 abbrev pub ReadsAs : ℕ → (List ℕ → ℕ → Type 0) → (List ℕ → ℕ → Instr) → Type 0
-ReadsAs op Where instr = (P : Program) (pl : Places) (n size : ℕ) (m : machine.State) (answer : Option ℕ) (s s' : State) (h : IsStep P pl n size m answer s s') → s.mode ≡ Running → m.opcode ≡ op
+ReadsAs op Where instr = (P : Program) (pl : Places) (n size : ℕ) (m : machine.MachineState) (answer : Option ℕ) (s s' : State) (h : IsStep P pl n size m answer s s') → s.mode ≡ Running → m.opcode ≡ op
     → Where h.stands.body.code h.stands.top.pc → Reads P pl n size m answer s s' h.stands (instr h.stands.body.code h.stands.top.pc)
 
 -- how the instruction of an opcode with j bytes behind it is read
@@ -78,7 +78,7 @@ pub record HasBytes (code : List ℕ) (pc j : ℕ) (x : Sketch) : Type 0 where
   pub small : (k : ℕ) → u1 code k < 2 ^ 8
 
 -- The machine as a sketch, at an instruction with a row and j bytes behind its opcode, and how the row ends on the sketch.
-pub record Scene (P : Program) (pl : Places) (n size : ℕ) (m : machine.State) (answer : Option ℕ) (s s' : State) (st : StandsFor P pl n size m s) (i : Instr) (r : Row) (op : PlainOp) (j : ℕ) (x : Sketch) : Type 0 where
+pub record Scene (P : Program) (pl : Places) (n size : ℕ) (m : machine.MachineState) (answer : Option ℕ) (s s' : State) (st : StandsFor P pl n size m s) (i : Instr) (r : Row) (op : PlainOp) (j : ℕ) (x : Sketch) : Type 0 where
   pub instruction : IsAtRow P pl n size m answer s s' st i r
   pub well : IsWellFormed P (limits_of P pl n size) s
   pub shows : Shows P pl n size m s st (params m i.count 0) x
@@ -91,11 +91,11 @@ pub record Scene (P : Program) (pl : Places) (n size : ℕ) (m : machine.State) 
       → RunsRow n (params m i.count 0) m.opcode f x (env_of m) → ComesTo P pl n size m s s'
 
 abbrev pub FromScene : (i : List ℕ → ℕ → Instr) (r : List ℕ → ℕ → Row) (op : PlainOp) (j : ℕ) (Where : List ℕ → ℕ → Type 0) → Type 0
-FromScene i r op j Where = (P : Program) (pl : Places) (n size : ℕ) (m : machine.State) (answer : Option ℕ) (s s' : State) (st : StandsFor P pl n size m s) (x : Sketch) → Where st.body.code st.top.pc
+FromScene i r op j Where = (P : Program) (pl : Places) (n size : ℕ) (m : machine.MachineState) (answer : Option ℕ) (s s' : State) (st : StandsFor P pl n size m s) (x : Sketch) → Where st.body.code st.top.pc
     → Scene P pl n size m answer s s' st (i st.body.code st.top.pc) (r st.body.code st.top.pc) op j x → ComesTo P pl n size m s s'
 
 -- the scene of a step
-pub scene : Laws → (P : Program) (pl : Places) (n size : ℕ) (m : machine.State) (answer : Option ℕ) (s s' : State) (h : IsStep P pl n size m answer s s') (i : Instr) (r : Row) (op : PlainOp) (j : ℕ) → s.mode ≡ Running
+pub scene : Laws → (P : Program) (pl : Places) (n size : ℕ) (m : machine.MachineState) (answer : Option ℕ) (s s' : State) (h : IsStep P pl n size m answer s s') (i : Instr) (r : Row) (op : PlainOp) (j : ℕ) → s.mode ≡ Running
     → m.opcode ≡ code_of op → i.length ≡ 1 + j → ((x : Sketch) → raises op x ≡ false) → IsAtRow P pl n size m answer s s' h.stands i r
     → Scene P pl n size m answer s s' h.stands i r op j (seen (params m i.count 0) (None ∷ []) m h.stands.words h.stands.below)
 scene laws P pl n size m answer s s' h i r op j mode opcode long calm at =
@@ -132,7 +132,7 @@ abbrev pub moved : List ℕ → List ℕ → ℕ → Sketch → row.Effect
 moved words deep j x = record (unchanged x) { words = words; deep = deep; jpc = (advanced j x).jpc }
 
 -- from the effect, as words and as values, to the next state
-pub comes : Laws → (P : Program) (pl : Places) (n size : ℕ) (m : machine.State) (answer : Option ℕ) (s s' : State) (st : StandsFor P pl n size m s) (i : Instr) (r : Row) (op : PlainOp) (j : ℕ) (x : Sketch)
+pub comes : Laws → (P : Program) (pl : Places) (n size : ℕ) (m : machine.MachineState) (answer : Option ℕ) (s s' : State) (st : StandsFor P pl n size m s) (i : Instr) (r : Row) (op : PlainOp) (j : ℕ) (x : Sketch)
     (ls ops : List Value) (words deep lw ow : List ℕ) → Scene P pl n size m answer s s' st i r op j x → IsReady op x → plain.effect op x ≡ moved words deep j x
     → effect P (limits_of P pl n size) s st.top (st.top.pc + i.length) r ≡ Go (st.top.pc + i.length) ls ops
     → AreLocals (object_place P pl s.objects) ls lw → AreOperands (object_place P pl s.objects) ops ow → words ≡ ow ++ reverse st.words.saved → deep ≡ stacked st.below ++ lw → ComesTo P pl n size m s s'

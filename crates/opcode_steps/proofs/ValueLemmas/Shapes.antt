@@ -21,7 +21,7 @@ use Rattle.bytecode_model.specs.declared.Value.TheVariants.{Long}
 use Rattle.bytecode_model.specs.Types.{LongType, Moved, Numbers, is_long, is_moved}
 use Rattle.bytecode_model.specs.Program.{Operand}
 use Rattle.bytecode_model.specs.Rows as rows
-use Rattle.bytecode_model.specs.Rows.{Row, Width, Form}
+use Rattle.bytecode_model.specs.Rows.{Row, Width, StackForm}
 use Rattle.bytecode_model.specs.Table.{row_of}
 use Rattle.image_facts.specs.Words.{int_word, high_word, low_word}
 use Rattle.machine_stands.specs.Frames.{IsWordOf}
@@ -145,7 +145,7 @@ module _ (laws : Laws) (k : ℕ) (Where : List ℕ → ℕ → Type 0) (j : ℕ)
 
 -- ---- the operand stack
 
-pub shuffled : Laws → (k : ℕ) (op : StackOp) (form : Form) (upper lower : Width) (f : List ℕ → List ℕ) → stack_code op ≡ k → operands_of (opcodes.row_of k).form ≡ Some (one Absent)
+pub shuffled : Laws → (k : ℕ) (op : StackOp) (form : StackForm) (upper lower : Width) (f : List ℕ → List ℕ) → stack_code op ≡ k → operands_of (opcodes.row_of k).form ≡ Some (one Absent)
     → ((code : List ℕ) (pc : ℕ) (o : Operand) → row_of code (plain_instr k code pc (one Absent)) o ≡ Some (rows.Shuffle form upper lower))
     → ((x : Sketch) → width_words upper + width_words lower + 3 ≤ length x.under → stack_ready op x) → ((x : Sketch) → stack_effect op x ≡ moved (f (words_of x)) x.deep 0 x) → Arranges form upper lower f → Line k
 shuffled laws k op form upper lower f code fixed is ready makes arranges =

@@ -18,7 +18,7 @@ use Rattle.bytecode_model.specs.Program.{Program}
 use Rattle.bytecode_model.specs.Sizes.{value_words}
 use Rattle.bytecode_model.specs.Slots.{split, shuffled}
 use Rattle.bytecode_model.specs.Rows as rows
-use Rattle.bytecode_model.specs.Rows.{Width, Zero, One, Two, Form, Drop, Copy, Swap}
+use Rattle.bytecode_model.specs.Rows.{Width, Zero, One, Two, StackForm, Drop, Copy, Swap}
 use Rattle.bytecode_model.specs.Effects.{Go, shuffle}
 use Rattle.bytecode_model.specs.Lists.{onto}
 use Rattle.image_facts.specs.Places.{Places, object_place}
@@ -102,28 +102,28 @@ is_split Two (v ∷ w ∷ ops) upper rest h = by (is_long v) (is_long w) refl re
 
 -- ---- the words after a move
 
-abbrev pub arranged : Form → (upper lower rest : List ℕ) → List ℕ
+abbrev pub arranged : StackForm → (upper lower rest : List ℕ) → List ℕ
 arranged Drop upper lower rest = rest
 arranged Copy upper lower rest = upper ++ lower ++ upper ++ rest
 arranged Swap upper lower rest = lower ++ upper ++ rest
 
 -- the words that an opcode makes of those of the stack are moved so
-abbrev pub Arranges : (form : Form) (upper lower : Width) → (List ℕ → List ℕ) → Type 0
+abbrev pub Arranges : (form : StackForm) (upper lower : Width) → (List ℕ → List ℕ) → Type 0
 Arranges form upper lower f = OfWidth upper (λ us. OfWidth lower (λ ls. (rest : List ℕ) → f (us ++ (ls ++ rest)) ≡ arranged form us ls rest))
 
-above : (form : Form) (us ls rest saved : List ℕ) → arranged form us ls (rest ++ saved) ≡ arranged form us ls rest ++ saved
+above : (form : StackForm) (us ls rest saved : List ℕ) → arranged form us ls (rest ++ saved) ≡ arranged form us ls rest ++ saved
 above Drop us ls rest saved = refl
 above Copy us ls rest saved = sym (append_assoc (us ++ ls ++ us) rest saved)
 above Swap us ls rest saved = sym (append_assoc (ls ++ us) rest saved)
 
-are_arranged : Laws → (place : ℕ → ℕ) (form : Form) (upper lower rest : List Value) (us ls ws : List ℕ) → AreOperands place upper us → AreOperands place lower ls → AreOperands place rest ws
+are_arranged : Laws → (place : ℕ → ℕ) (form : StackForm) (upper lower rest : List Value) (us ls ws : List ℕ) → AreOperands place upper us → AreOperands place lower ls → AreOperands place rest ws
     → AreOperands place (shuffled form upper lower rest) (arranged form us ls ws)
 are_arranged laws place Drop upper lower rest us ls ws a b c = c
 are_arranged laws place Copy upper lower rest us ls ws a b c =
     laws.joined place (upper ++ lower ++ upper) rest (us ++ ls ++ us) ws (laws.joined place (upper ++ lower) upper (us ++ ls) us (laws.joined place upper lower us ls a b) a) c
 are_arranged laws place Swap upper lower rest us ls ws a b c = laws.joined place (lower ++ upper) rest (ls ++ us) ws (laws.joined place lower upper ls us b a) c
 
-pub shuffles : Laws → (P : Program) (pl : Places) (n size : ℕ) (m : machine.State) (answer : Option ℕ) (s s' : State) (st : StandsFor P pl n size m s) (i : Instr) (op : PlainOp) (x : Sketch) (form : Form) (upper lower : Width)
+pub shuffles : Laws → (P : Program) (pl : Places) (n size : ℕ) (m : machine.MachineState) (answer : Option ℕ) (s s' : State) (st : StandsFor P pl n size m s) (i : Instr) (op : PlainOp) (x : Sketch) (form : StackForm) (upper lower : Width)
     (f : List ℕ → List ℕ) → Scene P pl n size m answer s s' st i (rows.Shuffle form upper lower) op 0 x → (width_words upper + width_words lower + 3 ≤ length x.under → IsReady op x)
     → plain.effect op x ≡ moved (f (words_of x)) x.deep 0 x → Arranges form upper lower f → ComesTo P pl n size m s s'
 shuffles laws P pl n size m answer s s' st i op x form upper lower f at ready makes arranges =

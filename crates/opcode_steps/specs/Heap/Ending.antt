@@ -28,18 +28,19 @@ use Rattle.opcode_steps.specs.Heap.Raising.{MakesRaise, raised_by}
 
 -- A row that is shown of every sketch at the opcode's entry holds of the one that the machine is.
 abbrev pub RowsAreMade : Type 0
-RowsAreMade = (n : ℕ) (p : CostParams) (op : ℕ) (x : Sketch) (e : Env) (m : machine.State) (f : Sketch → row.Effect) (allowed : Sketch → Bool)
+RowsAreMade = (n : ℕ) (p : CostParams) (op : ℕ) (x : Sketch) (e : Env) (m : machine.MachineState) (f : Sketch → row.Effect) (allowed : Sketch → Bool)
     → StandsAt n p m.opcode x e m → m.opcode ≡ op
     → ((y : Sketch) → allowed (entered op y) ≡ true → Makes (f (entered op y)) (entered op y)) → allowed x ≡ true → Makes (f x) x
 
 abbrev pub RaisesAreMade : Type 0
-RaisesAreMade = (n : ℕ) (p : CostParams) (op : ℕ) (x : Sketch) (e : Env) (m : machine.State) (f : Sketch → Raising) (allowed : Sketch → Bool)
+RaisesAreMade = (n : ℕ) (p : CostParams) (op : ℕ) (x : Sketch) (e : Env) (m : machine.MachineState) (f : Sketch → Raising) (allowed : Sketch → Bool)
     → StandsAt n p m.opcode x e m → m.opcode ≡ op
     → ((y : Sketch) → allowed (entered op y) ≡ true → MakesRaise (f (entered op y)) (entered op y)) → allowed x ≡ true → MakesRaise (f x) x
 
 -- A row that leaves the words of some operands above those that the frame saves, and changes nothing else, goes on behind the instruction.
 abbrev pub RowsGoOn : Type 0
-RowsGoOn = (P : Program) (pl : Places) (n size : ℕ) (m : machine.State) (answer : Option ℕ) (s s' : State) (h : IsStep P pl n size m answer s s') (i : Instr)
+RowsGoOn = (P : Program) (pl : Places) (n size : ℕ) (m : machine.MachineState) (answer : Option ℕ) (s s' : State) (h : IsStep P pl n size m answer s s')
+    (i : Instr)
     (r : Row) (ops : List Value) (ws words : List ℕ) (jpc : ℕ)
     → let x = seen (params m i.count 0) (None ∷ []) m h.stands.words h.stands.below in
     s.mode ≡ Running → IsAtRow P pl n size m answer s s' h.stands i r
@@ -49,7 +50,8 @@ RowsGoOn = (P : Program) (pl : Places) (n size : ℕ) (m : machine.State) (answe
 
 -- So does one that also makes the memory of a state with other static fields or objects, which lie where they did.
 abbrev pub RowsWrite : Type 0
-RowsWrite = (P : Program) (pl : Places) (n size : ℕ) (m : machine.State) (answer : Option ℕ) (s s' : State) (h : IsStep P pl n size m answer s s') (i : Instr)
+RowsWrite = (P : Program) (pl : Places) (n size : ℕ) (m : machine.MachineState) (answer : Option ℕ) (s s' : State) (h : IsStep P pl n size m answer s s')
+    (i : Instr)
     (r : Row) (statics : List Value) (objects : List Object)
     (ops : List Value) (ws words memory : List ℕ) (jpc : ℕ) → let x = seen (params m i.count 0) (None ∷ []) m h.stands.words h.stands.below in
     s.mode ≡ Running → IsAtRow P pl n size m answer s s' h.stands i r
@@ -62,7 +64,8 @@ RowsWrite = (P : Program) (pl : Places) (n size : ℕ) (m : machine.State) (answ
 
 -- A row that raises an object of the raise list leaves some words above those that the frame saves; jpc is past a byte of the instruction.
 abbrev pub RowsRaise : Type 0
-RowsRaise = (P : Program) (pl : Places) (n size : ℕ) (m : machine.State) (answer : Option ℕ) (s s' : State) (h : IsStep P pl n size m answer s s') (i : Instr)
+RowsRaise = (P : Program) (pl : Places) (n size : ℕ) (m : machine.MachineState) (answer : Option ℕ) (s s' : State) (h : IsStep P pl n size m answer s s')
+    (i : Instr)
     (r : Row) (f : Fault) (words left : List ℕ) (jpc : ℕ)
     → let x = seen (params m i.count 0) (None ∷ []) m h.stands.words h.stands.below in
     s.mode ≡ Running → P.linked ≡ true → IsAtRow P pl n size m answer s s' h.stands i r

@@ -24,7 +24,7 @@ use Rattle.opcode_steps.specs.Heap.Writing.{SamePlaces}
 
 -- of x the row makes the words of the frame with these local variables and operands, at a place, and the memory of the state with these static fields
 -- and objects
-pub record WritesFrame (P : Program) (pl : Places) (n size : ℕ) (m : machine.State) (s : State) (st : StandsFor P pl n size m s) (statics : List Value)
+pub record WritesFrame (P : Program) (pl : Places) (n size : ℕ) (m : machine.MachineState) (s : State) (st : StandsFor P pl n size m s) (statics : List Value)
     (objects : List Object) (pc : ℕ) (locals operands : List Value) (x : Sketch)
     (f : row.Effect) : Type 0 where
   pub local_words : List ℕ
@@ -42,7 +42,8 @@ pub record WritesFrame (P : Program) (pl : Places) (n size : ℕ) (m : machine.S
 
 -- So the machine comes to the next state, in which the objects lie where they did.
 abbrev pub WritesGoOn : Type 0
-WritesGoOn = (P : Program) (pl : Places) (n size : ℕ) (m : machine.State) (answer : Option ℕ) (s s' : State) (h : IsStep P pl n size m answer s s') (i : Instr)
+WritesGoOn = (P : Program) (pl : Places) (n size : ℕ) (m : machine.MachineState) (answer : Option ℕ) (s s' : State) (h : IsStep P pl n size m answer s s')
+    (i : Instr)
     (r : Row) (statics : List Value) (objects : List Object)
     (pc : ℕ) (locals operands : List Value) (f : row.Effect) → s.mode ≡ Running → IsAtRow P pl n size m answer s s' h.stands i r
     → s' ≡ with_top (record s { statics = statics; objects = objects }) h.stands.callers (record h.stands.top { pc = pc; locals = locals; operands = operands })

@@ -93,7 +93,7 @@ makes_raise k guesses f x allowed operand h fine = record {
 
 -- So the machine comes to the raise routine, in at most the opcode's cost.
 abbrev pub MadeRaisesRun : Type 0
-MadeRaisesRun = (n : ℕ) (p : CostParams) (op : ℕ) (f : Raising) (x : Sketch) (e : Env) (m : machine.State) → StandsAt n p op x e m → MakesRaise f x
+MadeRaisesRun = (n : ℕ) (p : CostParams) (op : ℕ) (f : Raising) (x : Sketch) (e : Env) (m : machine.MachineState) → StandsAt n p op x e m → MakesRaise f x
     → RunsToRaise n p op f x e
 
 -- ---- of the raise list
@@ -105,7 +105,7 @@ raised_by f words jpc x = record { words = words; jpc = jpc; object = slice_inde
 -- A row whose effect is to raise the fault, and which so comes to the raise routine, comes to the next state. It leaves some words above those that
 -- the frame saves, and jpc is past a byte of the instruction.
 abbrev pub FaultsAreRaised : Type 0
-FaultsAreRaised = (P : Program) (pl : Places) (n size : ℕ) (m : machine.State) (answer : Option ℕ) (s s' : State) (h : IsStep P pl n size m answer s s')
+FaultsAreRaised = (P : Program) (pl : Places) (n size : ℕ) (m : machine.MachineState) (answer : Option ℕ) (s s' : State) (h : IsStep P pl n size m answer s s')
     (i : Instr) (r : Row) (f : Fault)
     (words left : List ℕ) (jpc : ℕ) → let x = seen (params m i.count 0) (None ∷ []) m h.stands.words h.stands.below in
     s.mode ≡ Running → P.linked ≡ true → IsAtRow P pl n size m answer s s' h.stands i r

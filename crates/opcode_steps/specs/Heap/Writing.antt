@@ -22,7 +22,7 @@ pub record WritesLong (words : List ℕ) (place : ℕ) (n : ℤ) (after : List �
 
 -- A word that is written over a field or an element of one word makes the memory of the state in which it has the new value.
 abbrev pub PartsAreWritten : Type 0
-PartsAreWritten = (P : Program) (pl : Places) (n size : ℕ) (m : machine.State) (s : State) (p : ℕ) (o : Object) (k : ℕ) (v w : Value) (word : ℕ)
+PartsAreWritten = (P : Program) (pl : Places) (n size : ℕ) (m : machine.MachineState) (s : State) (p : ℕ) (o : Object) (k : ℕ) (v w : Value) (word : ℕ)
     (changed : List Object)
     → StandsFor P pl n size m s → IsWellFormed P (limits_of P pl n size) s → slice_get s.objects p ≡ Some o → slice_get o.parts k ≡ Some v → is_long v ≡ false
     → is_long w ≡ false → (w ≡ Unset → ⊥)
@@ -30,7 +30,7 @@ PartsAreWritten = (P : Program) (pl : Places) (n size : ℕ) (m : machine.State)
     → slice_set m.port.words (part_place P pl s.objects p o k) word ≡ memory_of P pl size (record s { objects = changed })
 
 abbrev pub LongPartsAreWritten : Type 0
-LongPartsAreWritten = (P : Program) (pl : Places) (n size : ℕ) (m : machine.State) (s : State) (p : ℕ) (o : Object) (k : ℕ) (v : Value) (w : ℤ)
+LongPartsAreWritten = (P : Program) (pl : Places) (n size : ℕ) (m : machine.MachineState) (s : State) (p : ℕ) (o : Object) (k : ℕ) (v : Value) (w : ℤ)
     (changed : List Object)
     → StandsFor P pl n size m s → IsWellFormed P (limits_of P pl n size) s → slice_get s.objects p ≡ Some o → slice_get o.parts k ≡ Some v → is_long v ≡ true
     → written s.objects p k (Long w) ≡ Some changed
@@ -38,14 +38,14 @@ LongPartsAreWritten = (P : Program) (pl : Places) (n size : ℕ) (m : machine.St
 
 -- So with static fields.
 abbrev pub StaticsAreWritten : Type 0
-StaticsAreWritten = (P : Program) (pl : Places) (n size : ℕ) (m : machine.State) (s : State) (k : ℕ) (v w : Value) (word : ℕ) (changed : List Value)
+StaticsAreWritten = (P : Program) (pl : Places) (n size : ℕ) (m : machine.MachineState) (s : State) (k : ℕ) (v w : Value) (word : ℕ) (changed : List Value)
     → StandsFor P pl n size m s → IsWellFormed P (limits_of P pl n size) s → slice_get s.statics k ≡ Some v → is_long v ≡ false → is_long w ≡ false
     → (w ≡ Unset → ⊥)
     → IsWordOf (object_place P pl s.objects) w word → replaced s.statics k w ≡ Some changed
     → slice_set m.port.words (static_place P pl k) word ≡ memory_of P pl size (record s { statics = changed })
 
 abbrev pub LongStaticsAreWritten : Type 0
-LongStaticsAreWritten = (P : Program) (pl : Places) (n size : ℕ) (m : machine.State) (s : State) (k : ℕ) (v : Value) (w : ℤ) (changed : List Value)
+LongStaticsAreWritten = (P : Program) (pl : Places) (n size : ℕ) (m : machine.MachineState) (s : State) (k : ℕ) (v : Value) (w : ℤ) (changed : List Value)
     → StandsFor P pl n size m s → IsWellFormed P (limits_of P pl n size) s → slice_get s.statics k ≡ Some v → is_long v ≡ true
     → replaced s.statics k (Long w) ≡ Some changed
     → WritesLong m.port.words (static_place P pl k) w (memory_of P pl size (record s { statics = changed }))

@@ -2,7 +2,7 @@
 
 // The files that the words of a command line name.
 ghost use Rattle.std.specs.Prelude.{◌≡◌, ◌≢◌, ◌<◌, ◌≤◌, ◌+◌, ◌-◌, ◌^◌, ℕ, min, List, length, map, slice_get, slice_index, string_bytes, vec_len, IfOk, All};
-ghost use Rattle.outside.specs.Outside.{Counted, HasCause, HasLength, OnlyWord, ReadAt, Rose};
+ghost use Rattle.outside.specs.Outside.{Counted, HasCause, HasFileLength, OnlyWord, ReadAt, Rose};
 ghost use Rattle.outside.specs.Memory.{entry_told};
 ghost use Rattle.outside.specs.Host.{NamedState, told_at};
 
@@ -81,7 +81,7 @@ impl<S: FileSystem + Drop> Files for HostFiles<S> {
 
     fn length(&mut self, word: u32) -> Result<u64, Failed>
         requires { word < length self.old.faults }
-        ensures told { IfOk result (HasLength (told_at self.old.told word)) }
+        ensures told { IfOk result (HasFileLength (told_at self.old.told word)) }
         ensures rest { OnlyWord (length self.old.faults) (length self.new.faults) (told_at self.old.told)
             (told_at self.new.told) (slice_index self.old.faults) (slice_index self.new.faults) word }
         ensures cause { HasCause (slice_index self.old.faults word) (slice_index self.new.faults word) result }

@@ -4,7 +4,7 @@
 ghost use Rattle.std.specs.Prelude.{◌≡◌, ◌≤◌, ◌↔◌, ℕ, List, length, None, IfOk, IsOk};
 ghost use Rattle.std.specs.declared.option.Option.{Option};
 ghost use Rattle.std.specs.Fs.{IsFile, file_type, metadata_len};
-ghost use Rattle.outside.specs.Outside.{HasLength, IsReadFrom, ReadAt};
+ghost use Rattle.outside.specs.Outside.{HasFileLength, IsReadFrom, ReadAt};
 ghost use Rattle.outside.specs.Host.{CountsFile, Has, HasTold};
 
 use std::fs::Metadata;
@@ -58,7 +58,7 @@ fn regular_length(metadata: &Metadata) -> io::Result<u64>
 
 /// The length of the regular file at a path.
 pub fn length_of<S: FileSystem>(system: &S, path: &str) -> io::Result<u64>
-    ensures { IfOk result (HasLength (S.told system.now path.now)) }
+    ensures { IfOk result (HasFileLength (S.told system.now path.now)) }
 {
     let metadata = system.metadata(path)?;
     regular_length(&metadata)

@@ -2,7 +2,7 @@
 
 // Files in memory.
 ghost use Rattle.std.specs.Prelude.{◌≡◌, ◌<◌, ◌≤◌, ◌^◌, ◌↔◌, ℕ, List, [], length, map, IsErr, IfOk, IfSome, slice_get};
-ghost use Rattle.outside.specs.Outside.{Counted, HasCause, HasLength, OnlyWord, ReadAt};
+ghost use Rattle.outside.specs.Outside.{Counted, HasCause, HasFileLength, OnlyWord, ReadAt};
 ghost use Rattle.outside.specs.Memory.{CountsCall, FailsAt, FilesState, bytes_or_empty, entry_bytes, faults_of, told_of, words_of};
 
 use super::failing::FailingCalls;
@@ -84,7 +84,7 @@ impl Files for MemFiles {
 
     fn length(&mut self, word: u32) -> Result<u64, Failed>
         requires { word < words_of self.old }
-        ensures told { IfOk result (HasLength (told_of self.old word)) }
+        ensures told { IfOk result (HasFileLength (told_of self.old word)) }
         ensures rest { OnlyWord (words_of self.old) (words_of self.new) (told_of self.old) (told_of self.new)
             (faults_of self.old) (faults_of self.new) word }
         ensures cause { HasCause (faults_of self.old word) (faults_of self.new word) result }

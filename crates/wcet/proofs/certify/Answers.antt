@@ -7,7 +7,7 @@ use Rattle.bound_rules.specs.Conditions.{MeetsConditions}
 use Rattle.bound_rules.specs.Numbers.{IsPrinted}
 use Rattle.wcet.specs.Known.{BoundSetting, bounds_in, ForEach}
 use Rattle.wcet.specs.Methods.{AreMethodsFound}
-use Rattle.wcet.specs.Ready.{AreReady, IsReady, IsSizeCause, IsWantOfMemory}
+use Rattle.wcet.specs.Ready.{AreReady, IsReadyOrder, IsSizeCause, IsWantOfMemory}
 use Rattle.wcet.proofs.Certifying.{want_is_cause}
 use Rattle.wcet.proofs.Ordering.{are_ready}
 use Rattle.wcet.proofs.certify.Goals as goal
@@ -24,7 +24,7 @@ returns-in_err-found-clause-cause c =
 
 pub certificate-requires-clause-found : goal.certificate-requires-clause-found
 certificate-requires-clause-found c =
-    let S : BoundSetting → Type 0 = λ s. ForEach s (λ P. IsReady P (bounds_in s) c.args.root c.args.order.now.methods) in
+    let S : BoundSetting → Type 0 = λ s. ForEach s (λ P. IsReadyOrder P (bounds_in s) c.args.root c.args.order.now.methods) in
     let F : List ℕ → Type 0 = λ ms. AreMethodsFound c.new-task.result ms c.in_ok-found.found in
     record {
       order = c.args.order.now.methods;

@@ -1,11 +1,10 @@
 use Rattle.std.proofs.Common.{◌≡◌, ℕ, List, Some, sym, subst}
 use Rattle.std.specs.Prelude.{IfOk, slice_get}
 use Rattle.class_pool.specs.declared.class.ClassFile.{ClassFile}
-use Rattle.program_tables.specs.Resolved.{resolved}
+use Rattle.program_tables.specs.Resolved.{resolved, method_name}
 use Rattle.bytecode_typing.specs.Lawful.{Lawful}
 use Rattle.bytecode_typing.specs.WellPlaced.{WellPlaced}
 use Rattle.method_flow.specs.Flow.{Coded, IsFlowOf}
-use Rattle.analysis_commands.specs.Analysis.{name_of}
 use Rattle.analysis_commands.proofs.analysis.table_of.Goals as goal
 
 pub flow_of-requires-clause-placed : goal.flow_of-requires-clause-placed
@@ -19,5 +18,5 @@ returns-clause-flow c = let P : List ClassFile → Type 0 = λ cs. IfOk c.flow_o
 
 pub returns-clause-names : goal.returns-clause-names
 returns-clause-names c =
-    let P : List ClassFile → Type 0 = λ cs. IfOk c.flow_of.result (λ f. (m : ℕ) (k : Coded) → slice_get f.methods m ≡ Some k → k.name ≡ name_of cs m) in
+    let P : List ClassFile → Type 0 = λ cs. IfOk c.flow_of.result (λ f. (m : ℕ) (k : Coded) → slice_get f.methods m ≡ Some k → k.name ≡ method_name cs m) in
     subst P c.program.ensures.program c.flow_of.ensures.names

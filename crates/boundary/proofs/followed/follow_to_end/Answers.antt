@@ -39,7 +39,7 @@ loop-top-preserved g c =
           let known_now : AreMethods h.program h.places c.args.running.now.methods → AreMethods h.program h.places c.bytecode.new.self.methods =
           λ known. subst (λ (ms : List CodedMethod). AreMethods h.program h.places ms) (sym same) known in
           let last = inv.far h s is st in
-          followed_on g.F.Follower.after c.runs_add_up.ensures c.cycles_keep.ensures h c.args.limit (record { machine = c.args.running.now.machine; state = s }) (AreMethods h.program h.places c.args.running.now.methods) c.args.follower.now c.loop-top.running.machine c.bytecode.new.self.machine (g.D.Devices.told c.args.device.now) (g.D.Devices.told c.loop-top.device) (g.D.Devices.told c.bytecode.new.device) c.loop-top.follower last.far (omega (arith, c.loop-top-test.true, c.clock.ensures, ap (λ (m : machine.State). m.clock) c.machine.ensures)) c.in_ok-bytecode.field-0 c.hand_on-top.new.follower c.hand_on-top.result c.in-Bytecode.is (λ t stands. c.in_ok-bytecode.ensures.steps inv.mode h t is stands)
+          followed_on g.F.Follower.after c.runs_add_up.ensures c.cycles_keep.ensures h c.args.limit (record { machine = c.args.running.now.machine; state = s }) (AreMethods h.program h.places c.args.running.now.methods) c.args.follower.now c.loop-top.running.machine c.bytecode.new.self.machine (g.D.Devices.told c.args.device.now) (g.D.Devices.told c.loop-top.device) (g.D.Devices.told c.bytecode.new.device) c.loop-top.follower last.far (omega (arith, c.loop-top-test.true, c.clock.ensures, ap (λ (m : machine.MachineState). m.clock) c.machine.ensures)) c.in_ok-bytecode.field-0 c.hand_on-top.new.follower c.hand_on-top.result c.in-Bytecode.is (λ t stands. c.in_ok-bytecode.ensures.steps inv.mode h t is stands)
           (λ b known b_is follows stands. c.hand_on-top.ensures.top h last.far.run.last b is (known_now known) b_is follows stands (last.top_is known))
           (λ b known b_is follows stands. c.hand_on-top.ensures.hands h last.far.run.last b is (known_now known) b_is follows stands (last.top_is known) (last.handed known))
           c.hand_on-top.ensures.small;
@@ -53,7 +53,7 @@ returns-in_err-bytecode-clause-follows g c = λ h s is st.
     let P : Result RunEnd DeviceFault → Type 0 = λ r. FollowsTo g.F.Follower.after h c.args.limit c.args.running.now s c.bytecode.new.self.machine (g.D.Devices.told c.args.device.now) (g.D.Devices.told c.bytecode.new.device) c.args.follower.now c.loop-top.follower r in
     subst P (sym (err_is c.from_residual.result fault c.from_residual.ensures.0 same))
     (to_fault g.F.Follower.after h c.args.limit c.args.running.now s c.loop-top.running.machine (g.D.Devices.told c.args.device.now) (g.D.Devices.told c.loop-top.device) c.args.follower.now c.loop-top.follower c.bytecode.new.self.machine (g.D.Devices.told c.bytecode.new.device)
-    (c.loop-top.invariant.far h s is st).far (omega (arith, c.loop-top-test.true, c.clock.ensures, ap (λ (m : machine.State). m.clock) c.machine.ensures)) fault (λ t stands. c.in_err-bytecode.ensures.steps c.loop-top.invariant.mode h t is stands))
+    (c.loop-top.invariant.far h s is st).far (omega (arith, c.loop-top-test.true, c.clock.ensures, ap (λ (m : machine.MachineState). m.clock) c.machine.ensures)) fault (λ t stands. c.in_err-bytecode.ensures.steps c.loop-top.invariant.mode h t is stands))
 
 pub returns-in_err-bytecode-clause-runs : goal.returns-in_err-bytecode-clause-runs
 returns-in_err-bytecode-clause-runs g c =
@@ -63,7 +63,7 @@ pub returns-in-Halted-clause-follows : goal.returns-in-Halted-clause-follows
 unfolding FollowsAll
 returns-in-Halted-clause-follows g c = λ h s is st.
     to_end g.F.Follower.after h c.args.limit c.args.running.now s c.bytecode.new.self.machine (g.D.Devices.told c.args.device.now) (g.D.Devices.told c.bytecode.new.device) c.args.follower.now c.loop-top.follower ends.Ended
-    (followed_ended g.F.Follower.after c.runs_add_up.ensures c.cycles_keep.ensures h c.args.limit (record { machine = c.args.running.now.machine; state = s }) (AreMethods h.program h.places c.args.running.now.methods) c.args.follower.now c.loop-top.running.machine c.bytecode.new.self.machine (g.D.Devices.told c.args.device.now) (g.D.Devices.told c.loop-top.device) (g.D.Devices.told c.bytecode.new.device) c.loop-top.follower (c.loop-top.invariant.far h s is st).far (omega (arith, c.loop-top-test.true, c.clock.ensures, ap (λ (m : machine.State). m.clock) c.machine.ensures)) c.in_ok-bytecode.field-0 c.in-Halted.is (λ t stands. c.in_ok-bytecode.ensures.steps c.loop-top.invariant.mode h t is stands))
+    (followed_ended g.F.Follower.after c.runs_add_up.ensures c.cycles_keep.ensures h c.args.limit (record { machine = c.args.running.now.machine; state = s }) (AreMethods h.program h.places c.args.running.now.methods) c.args.follower.now c.loop-top.running.machine c.bytecode.new.self.machine (g.D.Devices.told c.args.device.now) (g.D.Devices.told c.loop-top.device) (g.D.Devices.told c.bytecode.new.device) c.loop-top.follower (c.loop-top.invariant.far h s is st).far (omega (arith, c.loop-top-test.true, c.clock.ensures, ap (λ (m : machine.MachineState). m.clock) c.machine.ensures)) c.in_ok-bytecode.field-0 c.in-Halted.is (λ t stands. c.in_ok-bytecode.ensures.steps c.loop-top.invariant.mode h t is stands))
 
 pub returns-in-Halted-clause-runs : goal.returns-in-Halted-clause-runs
 returns-in-Halted-clause-runs g c =
@@ -73,7 +73,7 @@ pub returns-in-Uncaught-clause-follows : goal.returns-in-Uncaught-clause-follows
 unfolding FollowsAll
 returns-in-Uncaught-clause-follows g c = λ h s is st.
     to_end g.F.Follower.after h c.args.limit c.args.running.now s c.bytecode.new.self.machine (g.D.Devices.told c.args.device.now) (g.D.Devices.told c.bytecode.new.device) c.args.follower.now c.loop-top.follower (ends.Uncaught c.in-Uncaught.class)
-    (followed_uncaught g.F.Follower.after c.runs_add_up.ensures c.cycles_keep.ensures h c.args.limit (record { machine = c.args.running.now.machine; state = s }) (AreMethods h.program h.places c.args.running.now.methods) c.args.follower.now c.loop-top.running.machine c.bytecode.new.self.machine (g.D.Devices.told c.args.device.now) (g.D.Devices.told c.loop-top.device) (g.D.Devices.told c.bytecode.new.device) c.loop-top.follower (c.loop-top.invariant.far h s is st).far (omega (arith, c.loop-top-test.true, c.clock.ensures, ap (λ (m : machine.State). m.clock) c.machine.ensures)) c.in_ok-bytecode.field-0 c.in-Uncaught.class c.in-Uncaught.is (λ t stands. c.in_ok-bytecode.ensures.steps c.loop-top.invariant.mode h t is stands))
+    (followed_uncaught g.F.Follower.after c.runs_add_up.ensures c.cycles_keep.ensures h c.args.limit (record { machine = c.args.running.now.machine; state = s }) (AreMethods h.program h.places c.args.running.now.methods) c.args.follower.now c.loop-top.running.machine c.bytecode.new.self.machine (g.D.Devices.told c.args.device.now) (g.D.Devices.told c.loop-top.device) (g.D.Devices.told c.bytecode.new.device) c.loop-top.follower (c.loop-top.invariant.far h s is st).far (omega (arith, c.loop-top-test.true, c.clock.ensures, ap (λ (m : machine.MachineState). m.clock) c.machine.ensures)) c.in_ok-bytecode.field-0 c.in-Uncaught.class c.in-Uncaught.is (λ t stands. c.in_ok-bytecode.ensures.steps c.loop-top.invariant.mode h t is stands))
 
 pub returns-in-Uncaught-clause-runs : goal.returns-in-Uncaught-clause-runs
 returns-in-Uncaught-clause-runs g c =
@@ -84,7 +84,7 @@ unfolding FollowsAll
 returns-clause-follows g c = λ h s is st.
     to_end g.F.Follower.after h c.args.limit c.args.running.now s c.loop-top.running.machine (g.D.Devices.told c.args.device.now) (g.D.Devices.told c.loop-top.device) c.args.follower.now c.loop-top.follower ends.Spent
     (followed_spent g.F.Follower.after c.runs_add_up.ensures c.cycles_keep.ensures h c.args.limit (record { machine = c.args.running.now.machine; state = s }) (AreMethods h.program h.places c.args.running.now.methods) c.args.follower.now c.loop-top.running.machine (g.D.Devices.told c.args.device.now) (g.D.Devices.told c.loop-top.device) c.loop-top.follower (c.loop-top.invariant.far h s is st).far
-    (omega (arith, c.loop-top-test.false, c.clock.ensures, ap (λ (m : machine.State). m.clock) c.machine.ensures)))
+    (omega (arith, c.loop-top-test.false, c.clock.ensures, ap (λ (m : machine.MachineState). m.clock) c.machine.ensures)))
 
 pub returns-clause-runs : goal.returns-clause-runs
 returns-clause-runs g c =

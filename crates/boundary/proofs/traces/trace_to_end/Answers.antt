@@ -41,7 +41,7 @@ loop-running-preserved g c =
           (traced device.cycles (g.S.Source.left device.input.now) (g.S.Source.faults device.input.now) (g.O.Sink.held device.out.now) device.write_faults device.seen_faults)
           (traced before.cycles (g.S.Source.left before.input.now) (g.S.Source.faults before.input.now) (g.O.Sink.held before.out.now) before.write_faults before.seen_faults)
           (traced after.cycles (g.S.Source.left after.input.now) (g.S.Source.faults after.input.now) (g.O.Sink.held after.out.now) after.write_faults after.seen_faults) refl (c.loop-running.invariant.far h s is)
-          (omega (arith, c.loop-running-test.true, c.clock.ensures, ap (λ (m : machine.State). m.clock) c.machine.ensures)) c.in_ok-trace_step.field-0 c.in-Bytecode.is (all_steps names h s c.args.running.now here c.trace_step.new.running.machine (traced before.cycles (g.S.Source.left before.input.now) (g.S.Source.faults before.input.now) (g.O.Sink.held before.out.now) before.write_faults before.seen_faults) (traced after.cycles (g.S.Source.left after.input.now) (g.S.Source.faults after.input.now) (g.O.Sink.held after.out.now) after.write_faults after.seen_faults) (Ok c.in_ok-trace_step.field-0) c.loop-running.invariant.methods is c.in_ok-trace_step.ensures.steps);
+          (omega (arith, c.loop-running-test.true, c.clock.ensures, ap (λ (m : machine.MachineState). m.clock) c.machine.ensures)) c.in_ok-trace_step.field-0 c.in-Bytecode.is (all_steps names h s c.args.running.now here c.trace_step.new.running.machine (traced before.cycles (g.S.Source.left before.input.now) (g.S.Source.faults before.input.now) (g.O.Sink.held before.out.now) before.write_faults before.seen_faults) (traced after.cycles (g.S.Source.left after.input.now) (g.S.Source.faults after.input.now) (g.O.Sink.held after.out.now) after.write_faults after.seen_faults) (Ok c.in_ok-trace_step.field-0) c.loop-running.invariant.methods is c.in_ok-trace_step.ensures.steps);
     }
 
 pub returns-in_err-trace_step-clause-traces : goal.returns-in_err-trace_step-clause-traces
@@ -60,7 +60,7 @@ returns-in_err-trace_step-clause-traces g c = λ h s is.
     (traced device.cycles (g.S.Source.left device.input.now) (g.S.Source.faults device.input.now) (g.O.Sink.held device.out.now) device.write_faults device.seen_faults)
     (traced before.cycles (g.S.Source.left before.input.now) (g.S.Source.faults before.input.now) (g.O.Sink.held before.out.now) before.write_faults before.seen_faults)
     (traced after.cycles (g.S.Source.left after.input.now) (g.S.Source.faults after.input.now) (g.O.Sink.held after.out.now) after.write_faults after.seen_faults) refl (c.loop-running.invariant.far h s is)
-    (omega (arith, c.loop-running-test.true, c.clock.ensures, ap (λ (m : machine.State). m.clock) c.machine.ensures)) fault (all_steps names h s c.args.running.now here c.trace_step.new.running.machine (traced before.cycles (g.S.Source.left before.input.now) (g.S.Source.faults before.input.now) (g.O.Sink.held before.out.now) before.write_faults before.seen_faults) (traced after.cycles (g.S.Source.left after.input.now) (g.S.Source.faults after.input.now) (g.O.Sink.held after.out.now) after.write_faults after.seen_faults) (Err fault) c.loop-running.invariant.methods is c.in_err-trace_step.ensures.steps))
+    (omega (arith, c.loop-running-test.true, c.clock.ensures, ap (λ (m : machine.MachineState). m.clock) c.machine.ensures)) fault (all_steps names h s c.args.running.now here c.trace_step.new.running.machine (traced before.cycles (g.S.Source.left before.input.now) (g.S.Source.faults before.input.now) (g.O.Sink.held before.out.now) before.write_faults before.seen_faults) (traced after.cycles (g.S.Source.left after.input.now) (g.S.Source.faults after.input.now) (g.O.Sink.held after.out.now) after.write_faults after.seen_faults) (Err fault) c.loop-running.invariant.methods is c.in_err-trace_step.ensures.steps))
 
 pub returns-in-Halted-clause-traces : goal.returns-in-Halted-clause-traces
 unfolding TracesAll
@@ -74,7 +74,7 @@ returns-in-Halted-clause-traces g c = λ h s is.
     (traced device.cycles (g.S.Source.left device.input.now) (g.S.Source.faults device.input.now) (g.O.Sink.held device.out.now) device.write_faults device.seen_faults)
     (traced before.cycles (g.S.Source.left before.input.now) (g.S.Source.faults before.input.now) (g.O.Sink.held before.out.now) before.write_faults before.seen_faults)
     (traced after.cycles (g.S.Source.left after.input.now) (g.S.Source.faults after.input.now) (g.O.Sink.held after.out.now) after.write_faults after.seen_faults) refl (c.loop-running.invariant.far h s is)
-    (omega (arith, c.loop-running-test.true, c.clock.ensures, ap (λ (m : machine.State). m.clock) c.machine.ensures)) c.in_ok-trace_step.field-0 c.in-Halted.is (all_steps names h s c.args.running.now here c.trace_step.new.running.machine (traced before.cycles (g.S.Source.left before.input.now) (g.S.Source.faults before.input.now) (g.O.Sink.held before.out.now) before.write_faults before.seen_faults) (traced after.cycles (g.S.Source.left after.input.now) (g.S.Source.faults after.input.now) (g.O.Sink.held after.out.now) after.write_faults after.seen_faults) (Ok c.in_ok-trace_step.field-0) c.loop-running.invariant.methods is c.in_ok-trace_step.ensures.steps)
+    (omega (arith, c.loop-running-test.true, c.clock.ensures, ap (λ (m : machine.MachineState). m.clock) c.machine.ensures)) c.in_ok-trace_step.field-0 c.in-Halted.is (all_steps names h s c.args.running.now here c.trace_step.new.running.machine (traced before.cycles (g.S.Source.left before.input.now) (g.S.Source.faults before.input.now) (g.O.Sink.held before.out.now) before.write_faults before.seen_faults) (traced after.cycles (g.S.Source.left after.input.now) (g.S.Source.faults after.input.now) (g.O.Sink.held after.out.now) after.write_faults after.seen_faults) (Ok c.in_ok-trace_step.field-0) c.loop-running.invariant.methods is c.in_ok-trace_step.ensures.steps)
 
 pub returns-in-Uncaught-clause-traces : goal.returns-in-Uncaught-clause-traces
 unfolding TracesAll
@@ -88,7 +88,7 @@ returns-in-Uncaught-clause-traces g c = λ h s is.
     (traced device.cycles (g.S.Source.left device.input.now) (g.S.Source.faults device.input.now) (g.O.Sink.held device.out.now) device.write_faults device.seen_faults)
     (traced before.cycles (g.S.Source.left before.input.now) (g.S.Source.faults before.input.now) (g.O.Sink.held before.out.now) before.write_faults before.seen_faults)
     (traced after.cycles (g.S.Source.left after.input.now) (g.S.Source.faults after.input.now) (g.O.Sink.held after.out.now) after.write_faults after.seen_faults) refl (c.loop-running.invariant.far h s is)
-    (omega (arith, c.loop-running-test.true, c.clock.ensures, ap (λ (m : machine.State). m.clock) c.machine.ensures)) c.in_ok-trace_step.field-0 c.in-Uncaught.class c.in-Uncaught.is (all_steps names h s c.args.running.now here c.trace_step.new.running.machine (traced before.cycles (g.S.Source.left before.input.now) (g.S.Source.faults before.input.now) (g.O.Sink.held before.out.now) before.write_faults before.seen_faults) (traced after.cycles (g.S.Source.left after.input.now) (g.S.Source.faults after.input.now) (g.O.Sink.held after.out.now) after.write_faults after.seen_faults) (Ok c.in_ok-trace_step.field-0) c.loop-running.invariant.methods is c.in_ok-trace_step.ensures.steps)
+    (omega (arith, c.loop-running-test.true, c.clock.ensures, ap (λ (m : machine.MachineState). m.clock) c.machine.ensures)) c.in_ok-trace_step.field-0 c.in-Uncaught.class c.in-Uncaught.is (all_steps names h s c.args.running.now here c.trace_step.new.running.machine (traced before.cycles (g.S.Source.left before.input.now) (g.S.Source.faults before.input.now) (g.O.Sink.held before.out.now) before.write_faults before.seen_faults) (traced after.cycles (g.S.Source.left after.input.now) (g.S.Source.faults after.input.now) (g.O.Sink.held after.out.now) after.write_faults after.seen_faults) (Ok c.in_ok-trace_step.field-0) c.loop-running.invariant.methods is c.in_ok-trace_step.ensures.steps)
 
 pub returns-clause-traces : goal.returns-clause-traces
 unfolding TracesAll
@@ -96,4 +96,4 @@ returns-clause-traces g c = λ h s is.
     let device = c.args.device.now in
     let before = c.loop-running.device in
     far_spent c.runs_add_up.ensures c.cycles_keep.ensures device.cycles (texts c.args.names.now) h c.args.limit (record { machine = c.args.running.now.machine; state = s }) c.loop-running.running.machine (traced device.cycles (g.S.Source.left device.input.now) (g.S.Source.faults device.input.now) (g.O.Sink.held device.out.now) device.write_faults device.seen_faults) (traced before.cycles (g.S.Source.left before.input.now) (g.S.Source.faults before.input.now) (g.O.Sink.held before.out.now) before.write_faults before.seen_faults) (c.loop-running.invariant.far h s is)
-    (omega (arith, c.loop-running-test.false, c.clock.ensures, ap (λ (m : machine.State). m.clock) c.machine.ensures))
+    (omega (arith, c.loop-running-test.false, c.clock.ensures, ap (λ (m : machine.MachineState). m.clock) c.machine.ensures))

@@ -6,7 +6,7 @@ use Rattle.jop_core.specs.Reset.{linked_reset}
 use Rattle.run_devices.specs.Lent.{lent}
 use Rattle.commands.specs.LinkedRun.{linked_setting}
 use Rattle.commands.specs.Run.{Ran}
-use Rattle.commands.specs.Show.{Shown, AreNamed}
+use Rattle.commands.specs.Show.{Shown, HaveNamesToShow}
 use Rattle.commands.proofs.Named.{named}
 use Rattle.commands.proofs.Watched.{linked_is_traced}
 use Rattle.commands.proofs.linked_machine.run_named.Goals as goal
@@ -15,7 +15,7 @@ pub run_methods-requires-clause-named : goal.run_methods-requires-clause-named
 run_methods-requires-clause-named g c =
     let only = subst (λ (cs : List ClassFile). AreOnly cs c.in-Ok.methods.items) c.program.ensures.program c.in-Ok.ensures.no_others in
     let all = subst (λ (ms : List CodedMethod). AreOnly c.args.program.now ms) (sym c.deref.ensures.value) only in
-    subst (λ (x : Shown). AreNamed x c.deref.result.now) (sym c.requires.shown) (named c.methods_stand_by_number.ensures c.args.program.now c.args.plan.show c.deref.result.now all)
+    subst (λ (x : Shown). HaveNamesToShow x c.deref.result.now) (sym c.requires.shown) (named c.methods_stand_by_number.ensures c.args.program.now c.args.plan.show c.deref.result.now all)
 
 pub returns-in-Ok-clause-ran : goal.returns-in-Ok-clause-ran
 returns-in-Ok-clause-ran g c =

@@ -3,7 +3,7 @@ use Rattle.std.proofs.lemmas.List.{length-set}
 use Rattle.std.proofs.lemmas.List.Elements.{Contains-get_or}
 use Rattle.memory_bound.specs.Setting.{bounds_in, lengths_in}
 use Rattle.memory_bound.specs.declared.found.Found.{Found}
-use Rattle.memory_bound.specs.Found.{AreFound, IsFoundOf, found_at, unknown}
+use Rattle.memory_bound.specs.Found.{AreFound, IsMemoryFoundOf, found_at, unknown}
 use Rattle.memory_bound.specs.Examined.{TellsReducible}
 use Rattle.memory_bound.proofs.Ordered.{all_taken, each_written}
 use Rattle.memory_bound.proofs.Examined.{found_more}
@@ -37,4 +37,4 @@ pub returns-clause-found : goal.returns-clause-found
 returns-clause-found c = λ P flow sites first left.
     let b = bounds_in c.args.task.now in
     let l = lengths_in c.args.task.now in
-    all_taken (λ x. IsFoundOf P b l x (found_at c.loop-m.table.items x)) c.args.order.now c.loop-m.m-index c.loop-m-test.false (c.loop-m.invariant.found P flow sites first left)
+    all_taken (λ x. IsMemoryFoundOf P b l x (found_at c.loop-m.table.items x)) c.args.order.now c.loop-m.m-index c.loop-m-test.false (c.loop-m.invariant.found P flow sites first left)

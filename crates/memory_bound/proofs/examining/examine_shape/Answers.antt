@@ -2,7 +2,7 @@ use Rattle.std.proofs.Common.{◌↔◌, ℕ, ◌*◌, Bool, true, List, Contain
 use Rattle.std.specs.Prelude.{IsTrue}
 use Rattle.memory_rules.specs.Heap.{PlaceMakesObjects}
 use Rattle.memory_bound.specs.Setting.{bounds_in, lengths_in}
-use Rattle.memory_bound.specs.Found.{AreStarts}
+use Rattle.memory_bound.specs.Found.{BeginInstructions}
 use Rattle.memory_bound.specs.Lengths.{AreOn, IsFirstAmong}
 use Rattle.memory_bound.specs.Loops.{AreLoopsFound, AreBoundsOf}
 use Rattle.memory_bound.proofs.Findings.{are_on}
@@ -24,7 +24,7 @@ returns c = λ P flow sites of found.
     let are = c.in_ok-making.ensures.making P flow sites of starts know in
     let loops = subst (λ (bs : List Bool). AreLoopsFound b m bs s c.in_ok-loops.loops) c.deref.ensures.value c.in_ok-loops.ensures in
     let makes = subst (λ (us : List ℕ). IsTrue c.some_node_makes.result ↔ ((p : ℕ) × Contains us (2 * p) × PlaceMakesObjects P m p)) c.as_slice-nodes.ensures
-    (c.some_node_makes.ensures P flow sites (subst (λ (us : List ℕ). AreStarts P m us) (sym c.as_slice-nodes.ensures) starts) know) in
+    (c.some_node_makes.ensures P flow sites (subst (λ (us : List ℕ). BeginInstructions P m us) (sym c.as_slice-nodes.ensures) starts) know) in
     let among = subst (λ (us : List ℕ). IsFirstAmong P l m us c.first_unlimited.result) c.as_slice-nodes.ensures
     (c.first_unlimited.ensures P flow sites (subst (λ (us : List ℕ). AreOn P m us) (sym c.as_slice-nodes.ensures) (are_on laws.one P m s of))) in
     found_by_shape laws P m s of b l

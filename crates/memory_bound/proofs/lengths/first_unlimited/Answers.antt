@@ -1,6 +1,6 @@
 use Rattle.std.proofs.Common.{◌≡◌, ℕ, ◌*◌, Bool, refl, subst, below_more, get_or}
 use Rattle.memory_bound.specs.Setting.{lengths_in}
-use Rattle.memory_bound.specs.Found.{HasLength}
+use Rattle.memory_bound.specs.Found.{HasArrayLength}
 use Rattle.memory_bound.specs.Lengths.{TellsNode}
 use Rattle.memory_bound.proofs.Lacking.{node_on, first_here, nowhere}
 use Rattle.memory_bound.proofs.lengths.first_unlimited.Goals as goal
@@ -23,7 +23,7 @@ loop-node-preserved c = λ P flow sites on.
     let ns = c.args.nodes.now in
     let i = c.loop-node.node-index in
     let tells = c.is_unlimited.ensures P flow sites (node_on P m ns on i c.loop-node-test.true) in
-    below_more (λ k. (p : ℕ) → 2 * p ≡ get_or ns k 0 → HasLength P l m p) i (c.loop-node.invariant P flow sites on)
+    below_more (λ k. (p : ℕ) → 2 * p ≡ get_or ns k 0 → HasArrayLength P l m p) i (c.loop-node.invariant P flow sites on)
     (subst (λ (b : Bool). TellsNode P l m (get_or ns i 0) b) c.if-is_unlimited.false tells)
 
 pub returns : goal.returns

@@ -5,7 +5,7 @@ use Rattle.std.proofs.lemmas.Option.{slice_get_read}
 use Rattle.loop_nest.specs.Nest.{NaturalLoop}
 use Rattle.memory_rules.specs.Heap.{PlaceMakesObjects}
 use Rattle.memory_bound.specs.Shapes.{members_in}
-use Rattle.memory_bound.specs.Found.{AreStarts}
+use Rattle.memory_bound.specs.Found.{BeginInstructions}
 use Rattle.memory_bound.proofs.Looping.{members_below, one_more_loop, making_items_are}
 use Rattle.memory_bound.proofs.making.making_loops.Goals as goal
 
@@ -30,9 +30,9 @@ loop-l-preserved c =
     let items = c.in_ok-push.ensures.items in (
       ap length items ∙ length_push made b ∙ ap (λ (n : ℕ). n + 1) c.loop-l.invariant.0,
       λ P flow sites known.
-          subst (λ (bs : List Bool). (k : ℕ) (x : NaturalLoop) → k < i + 1 → slice_get ls k ≡ Some x → AreStarts P m (members_in ns x)
+          subst (λ (bs : List Bool). (k : ℕ) (x : NaturalLoop) → k < i + 1 → slice_get ls k ≡ Some x → BeginInstructions P m (members_in ns x)
           → IsTrue (slice_index_or bs k false) ↔ ((p : ℕ) × Contains (members_in ns x) (2 * p) × PlaceMakesObjects P m p)) (sym items)
-          (one_more_loop ls made i item b (λ x v. AreStarts P m (members_in ns x) → IsTrue v ↔ ((p : ℕ) × Contains (members_in ns x) (2 * p) × PlaceMakesObjects P m p)) c.loop-l.invariant.0
+          (one_more_loop ls made i item b (λ x v. BeginInstructions P m (members_in ns x) → IsTrue v ↔ ((p : ℕ) × Contains (members_in ns x) (2 * p) × PlaceMakesObjects P m p)) c.loop-l.invariant.0
           (slice_get_read ls (length ls) i item refl c.loop-l-test.true c.l-item.is) (λ starts. c.in_ok-loop_makes.ensures P flow sites starts known) (c.loop-l.invariant.1 P flow sites known)),
     )
 

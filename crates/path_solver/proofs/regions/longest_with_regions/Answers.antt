@@ -2,7 +2,7 @@ use Rattle.std.proofs.Common.{◌≡◌, ℕ, List, map, Option, Some, IfSome, O
 use Rattle.loop_nest.specs.Digraph.{Digraph}
 use Rattle.loop_nest.specs.Nest.{NaturalLoop}
 use Rattle.section_check.specs.Section.{IsInForm}
-use Rattle.section_check.specs.Conditions.{Answers}
+use Rattle.section_check.specs.Conditions.{IsSectionAnswer}
 use Rattle.path_solver.specs.Longest.{bounded_loops, AreLoopsOf, WalksAreTooLarge}
 use Rattle.path_solver.specs.Regions.{charged, AreRegionsApart, AreMarkedLoopsOf}
 use Rattle.path_solver.specs.Solution.{Solution}
@@ -24,10 +24,10 @@ own_form bounds loads ns o s is same h =
     subst Q same (subst P is h)
 
 own_answer : (g : Digraph) (costs bounds loads ns : List ℕ) (o : Option Solution) (s : Solution) → o ≡ Some s → loads ≡ ns
-    → IfSome o (λ (t : Solution). Answers g costs t.section bounds (map Some loads) (Ok (Some t.value))) → Answers g costs s.section bounds (map Some ns) (Ok (Some s.value))
+    → IfSome o (λ (t : Solution). IsSectionAnswer g costs t.section bounds (map Some loads) (Ok (Some t.value))) → IsSectionAnswer g costs s.section bounds (map Some ns) (Ok (Some s.value))
 own_answer g costs bounds loads ns o s is same h =
-    let P : Option Solution → Type 0 = λ q. IfSome q (λ (t : Solution). Answers g costs t.section bounds (map Some loads) (Ok (Some t.value))) in
-    let Q : List ℕ → Type 0 = λ zs. Answers g costs s.section bounds (map Some zs) (Ok (Some s.value)) in
+    let P : Option Solution → Type 0 = λ q. IfSome q (λ (t : Solution). IsSectionAnswer g costs t.section bounds (map Some loads) (Ok (Some t.value))) in
+    let Q : List ℕ → Type 0 = λ zs. IsSectionAnswer g costs s.section bounds (map Some zs) (Ok (Some s.value)) in
     subst Q same (subst P is h)
 
 pub returns-in-Some-clause-loops : goal.returns-in-Some-clause-loops
@@ -59,7 +59,7 @@ returns-in-Some-clause-shown c =
     let rs = c.args.regions.now in
     let ns = charged c.args.loads.now rs in
     let solved = c.in-Some.solved in
-    let Q : Solution → Type 0 = λ s. AreRegionsApart nest rs → Answers g costs s.section bounds (map Some ns) (Ok (Some s.value)) in
+    let Q : Solution → Type 0 = λ s. AreRegionsApart nest rs → IsSectionAnswer g costs s.section bounds (map Some ns) (Ok (Some s.value)) in
     subst Q (sym c.with_regions.ensures) (
     marked_shown g nest costs bounds ns rs solved.section solved.value c.marked_stays_accepted.ensures
     (own_loops nest c.in_ok-solved.field-0 solved c.in-Some.is c.in_ok-solved.ensures.loops) c.requires.regions

@@ -5,7 +5,7 @@ use Rattle.bytecode_model.specs.Types.{same_kind}
 use Rattle.class_lookup.specs.Parts.{same_text}
 use Rattle.program_tables.specs.Lists.{with_items}
 use Rattle.program_tables.specs.Numbers.{arrays_mentioned_in, first_types, strings_in}
-use Rattle.program_tables.specs.Tables.{kinds_of, HasBounds}
+use Rattle.program_tables.specs.Tables.{kinds_of, HasFileLimits}
 use Rattle.program_tables.proofs.ListLemmas.{got_index}
 use Rattle.program_tables.proofs.MentionLemmas.{next_part, types_are, strings_are}
 use Rattle.program_tables.proofs.TableLemmas.{all_at}
@@ -43,4 +43,4 @@ pub add_class_file-requires-clause-bounds : goal.add_class_file-requires-clause-
 add_class_file-requires-clause-bounds c =
     let cs = c.args.texts.now in
     let i = c.loop-number.number in
-    all_at HasBounds cs i c.class.result.now c.requires (ap (λ (xs : List ClassFile). slice_get xs i) (sym c.classes-classes.ensures) ∙ c.class.ensures)
+    all_at HasFileLimits cs i c.class.result.now c.requires (ap (λ (xs : List ClassFile). slice_get xs i) (sym c.classes-classes.ensures) ∙ c.class.ensures)

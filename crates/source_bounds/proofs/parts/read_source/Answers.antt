@@ -1,6 +1,6 @@
 use Rattle.std.proofs.Common.{ℕ, List, length, sym, subst, arith}
 use Rattle.std.specs.Prelude.{IfNone}
-use Rattle.loop_bounds.specs.Grammar.{IsNumber}
+use Rattle.loop_bounds.specs.Lines.{IsNumber}
 use Rattle.source_bounds.specs.Grammar.{IsSource}
 use Rattle.source_bounds.proofs.SourceLemmas.{IsLast, source_last, source_line, front_length, rest_of}
 use Rattle.source_bounds.proofs.parts.read_source.Goals as goal

@@ -3,7 +3,7 @@ use Rattle.std.specs.declared.result.Result.{Result}
 use Rattle.device_traits.specs.declared.fault.DeviceFault.{DeviceFault}
 use Rattle.jop_core.specs.declared.halt.Halt.TheVariants.{Running}
 use Rattle.jop_core.specs.declared.tick.Tick.{Tick}
-use Rattle.jop_core.specs.State.{State}
+use Rattle.jop_core.specs.State.{MachineState}
 use Rattle.jop_core.specs.Ticked.{Ticked}
 use Rattle.jop_core.specs.Cycle.{ran as runs}
 use Rattle.jop_core.specs.Steps.{meaning}
@@ -18,7 +18,7 @@ returns-in_err-seen-clause-ticked g c =
     let old = c.args.self.now in
     let fault = c.in_err-seen.field-0.0 in
     let on = goes_on c.self.inside.stall c.self.inside.halt (sym c.self.invariant.paused ∙ c.if-self.false) in
-    let running : old.halt ≡ Running = sym (ap (λ (s : State). s.halt) c.self.view_is) ∙ on.0 in
+    let running : old.halt ≡ Running = sym (ap (λ (s : MachineState). s.halt) c.self.view_is) ∙ on.0 in
     let same : IfErr c.from_residual.result (λ e. e ≡ fault) = search rules in
     let P : Result Tick DeviceFault → Type 0 = λ r. Ticked old old (g.D.Devices.told c.args.device.now) (g.D.Devices.told c.seen-2.new.self) r in
     subst P (sym (err_is c.from_residual.result fault c.from_residual.ensures.0 same)) (Ticked-unseen old c.seen.result _ _ fault running c.seen.ensures c.in_err-seen.ensures.told)
@@ -29,9 +29,9 @@ returns-in_err-input-clause-ticked g c =
     let fault = c.in_err-input.field-0.0 in
     let m = Some (meaning c.step_at-step.result.now) in
     let on = goes_on c.self.inside.stall c.self.inside.halt (sym c.self.invariant.paused ∙ c.if-self.false) in
-    let running : old.halt ≡ Running = sym (ap (λ (s : State). s.halt) c.self.view_is) ∙ on.0 in
-    let still : nat_lt 0 old.stall ≡ false = sym (ap (λ (s : State). nat_lt 0 s.stall) c.self.view_is) ∙ on.1 in
-    let at = ap (λ (s : State). s.mpc) c.self.view_is in
+    let running : old.halt ≡ Running = sym (ap (λ (s : MachineState). s.halt) c.self.view_is) ∙ on.0 in
+    let still : nat_lt 0 old.stall ≡ false = sym (ap (λ (s : MachineState). nat_lt 0 s.stall) c.self.view_is) ∙ on.1 in
+    let at = ap (λ (s : MachineState). s.mpc) c.self.view_is in
     let asking = asks_input-here old c.self.inside.mpc m still at c.step_at-step.ensures.micro in
     let same : IfErr c.from_residual-in_err-input.result (λ e. e ≡ fault) = search rules in
     let P : Result Tick DeviceFault → Type 0 = λ r. Ticked old old (g.D.Devices.told c.args.device.now) (g.D.Devices.told c.ask_in.new.device) r in
@@ -43,10 +43,10 @@ returns-in_err-put_out-clause-ticked g c =
     let fault = c.in_err-put_out.field-0.0 in
     let m = Some (meaning c.step_at-step.result.now) in
     let on = goes_on c.self.inside.stall c.self.inside.halt (sym c.self.invariant.paused ∙ c.if-self.false) in
-    let running : old.halt ≡ Running = sym (ap (λ (s : State). s.halt) c.self.view_is) ∙ on.0 in
-    let still : nat_lt 0 old.stall ≡ false = sym (ap (λ (s : State). nat_lt 0 s.stall) c.self.view_is) ∙ on.1 in
-    let at = ap (λ (s : State). s.mpc) c.self.view_is in
-    let a_is = ap (λ (s : State). s.a) c.self.view_is in
+    let running : old.halt ≡ Running = sym (ap (λ (s : MachineState). s.halt) c.self.view_is) ∙ on.0 in
+    let still : nat_lt 0 old.stall ≡ false = sym (ap (λ (s : MachineState). nat_lt 0 s.stall) c.self.view_is) ∙ on.1 in
+    let at = ap (λ (s : MachineState). s.mpc) c.self.view_is in
+    let a_is = ap (λ (s : MachineState). s.a) c.self.view_is in
     let outputs = output_of-here old c.self.inside.mpc m c.self.inside.a still at c.step_at-step.ensures.micro a_is in
     let start = begun old c.seen.result _ _ _ _ _ c.seen.ensures c.in_ok-seen.ensures.told.0 c.in_ok-seen.ensures.told.1 c.in_ok-input.ensures.asked.0 c.in_ok-input.ensures.asked.1 in
     let same : IfErr c.from_residual-in_err-put_out.result (λ e. e ≡ fault) = search rules in
@@ -58,19 +58,19 @@ returns-clause-ticked g c =
     let old = c.args.self.now in
     let m = Some (meaning c.step_at-step.result.now) in
     let on = goes_on c.self.inside.stall c.self.inside.halt (sym c.self.invariant.paused ∙ c.if-self.false) in
-    let running : old.halt ≡ Running = sym (ap (λ (s : State). s.halt) c.self.view_is) ∙ on.0 in
-    let still : nat_lt 0 old.stall ≡ false = sym (ap (λ (s : State). nat_lt 0 s.stall) c.self.view_is) ∙ on.1 in
-    let at = ap (λ (s : State). s.mpc) c.self.view_is in
-    let a_is = ap (λ (s : State). s.a) c.self.view_is in
+    let running : old.halt ≡ Running = sym (ap (λ (s : MachineState). s.halt) c.self.view_is) ∙ on.0 in
+    let still : nat_lt 0 old.stall ≡ false = sym (ap (λ (s : MachineState). nat_lt 0 s.stall) c.self.view_is) ∙ on.1 in
+    let at = ap (λ (s : MachineState). s.mpc) c.self.view_is in
+    let a_is = ap (λ (s : MachineState). s.a) c.self.view_is in
     let put = c.in_ok-put_out.ensures.put in
     let outputs = output_of-here old c.self.inside.mpc m c.self.inside.a still at c.step_at-step.ensures.micro a_is in
     let asking = asks_input-here old c.self.inside.mpc m still at c.step_at-step.ensures.micro in
     let ran = cycle_of-here old c.self.inside.mpc m c.in_ok-input.input still at c.step_at-step.ensures.micro in
-    let after = ap (λ (s : State). runs c.in_ok-input.input m s) c.count.ensures in
+    let after = ap (λ (s : MachineState). runs c.in_ok-input.input m s) c.count.ensures in
     let start = begun old c.seen.result _ _ _ _ _ c.seen.ensures c.in_ok-seen.ensures.told.0 c.in_ok-seen.ensures.told.1 c.in_ok-input.ensures.asked.0 c.in_ok-input.ensures.asked.1 in
     Ticked-went old c.run.new.self c.in_ok-input.input _ _ _ _ _ running (c.run.ensures ∙ after ∙ sym ran) asking outputs start put.0 put.1
 
 pub returns-clause-clock : goal.returns-clause-clock
 returns-clause-clock g c = λ went.
-    let clock_of : State → ℕ = λ s. s.clock in
+    let clock_of : MachineState → ℕ = λ s. s.clock in
     ap clock_of c.run.ensures ∙ (ran_keeps c.in_ok-input.input (Some (meaning c.step_at-step.result.now)) c.count.new.self).clock ∙ ap clock_of c.count.ensures
