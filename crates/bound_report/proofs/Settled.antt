@@ -14,10 +14,13 @@ use Rattle.wcet.specs.declared.fit.Fit.{Fit}
 use Rattle.wcet.specs.declared.known.Known.{Known}
 use Rattle.wcet.specs.declared.found.Walked.{Walked}
 use Rattle.wcet.specs.declared.found.Walked.TheVariants.{Never, Large}
-use Rattle.wcet.specs.Known.{unknown, known_at, bounds_in, IsLimited, IsKnownOf, Agrees, HasNumbers}
+use Rattle.method_flow.specs.Flow.{Coded}
+use Rattle.wcet.specs.declared.prepared.Prepared.{Prepared}
+use Rattle.wcet.specs.Known.{BoundSetting, unknown, known_at, bounds_in, IsLimited, IsKnownOf, Agrees, HasNumbers}
 use Rattle.wcet.specs.Laws.{numbers_by}
 use Rattle.wcet.specs.Found.{IsFitOf, IsWalked, found_by}
 use Rattle.wcet.specs.Found.IsFitOf.{fits, exceeds}
+use Rattle.wcet.specs.WalkedMethods.{WalkedMethod}
 use Rattle.wcet.specs.FoundLaws.{KnownIs}
 use Rattle.wcet.proofs.FoundNumbers.{has_agrees}
 use Rattle.bound_report.specs.Settled.{asked_in}
@@ -52,6 +55,21 @@ fitted P t m false told = record {
   is = exceeds refl (λ together. let bad : false ≡ true = told.1 together in cc) refl;
 }
 
+-- the method, whatever its walks cost
+abbrev method_with : (P : Program) (set : BoundSetting) (table : List Known) (m : ℕ) (k : Coded) (p : Prepared) (fit : Fit) → Walked → WalkedMethod
+method_with P set table m k p fit walked = record {
+  program = P;
+  timing = set.timing;
+  bound_of = bounds_in set;
+  flow = set.flow;
+  table = table;
+  method = m;
+  coded = k;
+  prepared = p;
+  fit = fit;
+  walked = walked;
+}
+
 pub settled_are_walked : KnownIs → SettledAreWalked
 settled_are_walked known_is P set table m k p h w = by w
   where
@@ -59,7 +77,8 @@ settled_are_walked known_is P set table m k p h w = by w
     fit = fitted P set.timing m p.fits h.prepared.fits
 
     found : (w : Walked) → IsWalked p w → IsKnownOf P set.timing (bounds_in set) table m (found_by m fit.fit w).known
-    found w is = known_is P set.timing (bounds_in set) set.flow k table m p fit.fit w h.flow h.at h.coded h.waits.read h.waits.write h.settled.told h.limited h.shape h.prepared fit.same fit.is is
+    found w is = known_is (method_with P set table m k p fit.fit w) (record { flow = h.flow; at = h.at; coded = h.coded; callees = h.settled.told; shape = h.shape; prepared = h.prepared; fits = fit.same; walked = is })
+        h.waits.read h.waits.write h.limited fit.is
 
     by : IsWalked p Never ⊎ IsWalked p (Large cycles_limit) → ⊥
     by (inl never) =

@@ -16,6 +16,7 @@ use Rattle.wcet.specs.declared.prepared.Prepared.{Prepared}
 use Rattle.wcet.specs.Known.{BoundSetting, IsBoundSetting, bounds_in, ForEach, CalleesAreKnown, IsLimited}
 use Rattle.wcet.specs.Prepared.{AreBounds, IsInShape, IsPreparedFor}
 use Rattle.wcet.specs.Found.{IsFitOf, IsFoundOf, IsSectionOf, IsShownBy, IsSmallWalked, IsWalked, ShowsNumber, found_by, known_by, section_by, section_unless}
+use Rattle.wcet.specs.WalkedMethods.{WalkedMethod}
 use Rattle.wcet.specs.FoundLaws.{KnownIs}
 use Rattle.wcet.specs.ShowLaws.{FoundShows, FoundInText}
 use Rattle.wcet.proofs.Limiting.{limited_most}
@@ -58,17 +59,32 @@ for_each : (set : BoundSetting) (table : List Known) (m : ℕ) (o : Option CertS
 for_each set table m None K L k l = tt
 for_each set table m (Some s) K L k l = (k, l)
 
+-- the method for a program of the setting
+abbrev method_with : (set : BoundSetting) (table : List Known) (m : ℕ) (k : Coded) (p : Prepared) (fit : Fit) (walked : Walked) → Program → WalkedMethod
+method_with set table m k p fit walked P = record {
+  program = P;
+  timing = set.timing;
+  bound_of = bounds_in set;
+  flow = set.flow;
+  table = table;
+  method = m;
+  coded = k;
+  prepared = p;
+  fit = fit;
+  walked = walked;
+}
+
 pub found_of : KnownIs → FoundShows → FoundInText → (set : BoundSetting) (table : List Known) (m : ℕ) (k : Coded) (p : Prepared) (fit : Fit) (walked : Walked) → IsBoundSetting set → slice_get set.flow.methods m ≡ Some k → IsCoded k → m < 2 ^ 32
     → p.shape.size < 2 ^ 32 → All IsLimited table → IsInShape p → p.fits ≡ fit.fits → AreBounds (bounds_in set) m p.shape p.bounds.items
     → ForEach set (λ P. CalleesAreKnown P set.timing table m → IsPreparedFor P set.timing (bounds_in set) table m p) → ForEach set (λ P. IsFitOf P set.timing m fit) → IsWalked p walked → IsSmallWalked walked
     → IsFoundOf set table m (found_by m fit walked)
 found_of known_is shows in_text set table m k p fit walked waits at c method size limited in_shape same bounds prepared fits w small = record {
   limited = found_limited m p fit walked w small;
-  known = λ P of told. known_is P set.timing (bounds_in set) set.flow k table m p fit walked of at c waits.read waits.write told limited in_shape (prepared P of told) same (fits P of) w;
+  known = λ P of told. known_is (method_with set table m k p fit walked P) (record { flow = of; at = at; coded = c; callees = told; shape = in_shape; prepared = prepared P of told; fits = same; walked = w }) waits.read waits.write limited (fits P of);
   none = found_none m p fit walked;
   some = found_some m p fit walked;
   section =
       for_each set table m (found_by m fit walked).section (IsSectionOf m (found_by m fit walked).known) (λ P. ShowsNumber P set.timing (bounds_in set) table m (found_by m fit walked).known)
       (in_text (bounds_in set) m p fit walked method (let less = size in omega arith) in_shape bounds same w)
-      (λ P of told. shows P set.timing (bounds_in set) set.flow k table m p fit walked of at c told in_shape (prepared P of told) same w);
+      (λ P of told. shows (method_with set table m k p fit walked P) (record { flow = of; at = at; coded = c; callees = told; shape = in_shape; prepared = prepared P of told; fits = same; walked = w }));
 }

@@ -7,12 +7,16 @@ use Rattle.wcet.proofs.OneValue.{AreFoundLaws}
 use Rattle.wcet.proofs.SmallCosts.{own_small}
 
 pub known_is : AreFoundLaws → KnownIs
-known_is laws P t bound_of f k table m p fit walked of at coded read write ends few shape h same_fits fit_of is =
-    let c = of.methods m k at in
-    let small = own_small laws.starts laws.kinds laws.costs laws.raises P t m k coded c read write in
+known_is laws x h read write few fit_of =
+    let P = x.program in
+    let t = x.timing in
+    let m = x.method in
+    let k = x.coded in
+    let c = h.flow.methods m k h.at in
+    let small = own_small laws.starts laws.kinds laws.costs laws.raises P t m k h.coded c read write in
     record {
-      told = is_told laws P t bound_of k table m p coded c ends shape h small fit same_fits fit_of walked is;
-      agrees = λ N agree numbers. agrees laws P t bound_of k table m p coded c ends shape h small fit same_fits fit_of walked is N agree numbers;
-      exceeds = λ N agree numbers. says_exceeding laws P t bound_of k table m p coded c ends shape h small fit same_fits fit_of walked is N agree numbers;
-      found = λ none N has own. are_numbers laws P t bound_of k table m p coded c ends shape h small fit same_fits fit_of walked is few none N has own;
+      told = is_told laws P t x.bound_of k x.table m x.prepared h.coded c h.callees h.shape h.prepared small x.fit h.fits fit_of x.walked h.walked;
+      agrees = λ N agree numbers. agrees laws P t x.bound_of k x.table m x.prepared h.coded c h.callees h.shape h.prepared small x.fit h.fits fit_of x.walked h.walked N agree numbers;
+      exceeds = λ N agree numbers. says_exceeding laws P t x.bound_of k x.table m x.prepared h.coded c h.callees h.shape h.prepared small x.fit h.fits fit_of x.walked h.walked N agree numbers;
+      found = λ none N has own. are_numbers laws P t x.bound_of k x.table m x.prepared h.coded c h.callees h.shape h.prepared small x.fit h.fits fit_of x.walked h.walked few none N has own;
     }

@@ -33,7 +33,7 @@ use Rattle.wcet.specs.declared.prepared.Prepared.{Prepared}
 use Rattle.wcet.specs.Known.{BoundSetting, bounds_in, CalleesAreKnown}
 use Rattle.wcet.specs.Telling.{AreToldBy, AreToldIn}
 use Rattle.wcet.specs.Prepared.{node_of, nest_of, call_count, IsLeftBy, AreCostsBy, IsInShape, AreToldWith, IsShapeOf, AreBounds, IsUnbounded, AreChargesOf, adds_by, is_without, AreWithout, AreLimitedCosts, IsPreparedFor, IsShapeWith, HasNoShapeWith, IsNotPrepared, AreMethodCosts}
-use Rattle.wcet.specs.Laws.{GraphsWhereTargetsEnd, CostsAreLimited}
+use Rattle.wcet.specs.Laws.{GraphsWhereTargetsEnd, CostsAreLimited, ToldCosts}
 use Rattle.wcet.proofs.Told.{load_is}
 
 -- ---- of the method itself
@@ -131,6 +131,21 @@ module _ (ends : GraphsWhereTargetsEnd) (sums : CostsAreLimited) (set : BoundSet
       let same : method_load set.timing.read set.flow.methods m ≡ load P set.timing.read m = sym (load_is set.timing.read set.flow.methods m k is) ∙ load_of k set.timing.read P m (of.methods m k is) in
       subst (λ (b : ℕ). AreToldBy table b set.flow k.calls told) same (are.1 k is)
 
+  abbrev told_costs : Program → Prepared → (own : List ℕ) (without : List Bool) → Digraph → ToldCosts
+  told_costs P p own without g = record {
+    program = P;
+    timing = set.timing;
+    flow = set.flow;
+    table = table;
+    method = m;
+    coded = k;
+    graph = g;
+    own = own;
+    told = told;
+    without = without;
+    costs = p.costs.items;
+  }
+
   pub prepared_for : (p : Prepared) → IsShapeWith set m told p.shape → AreBounds (bounds_in set) m p.shape p.bounds.items → ((P : Program) → IsFlowOf P set.flow → AreChargesOf P set.timing m p.shape p.fits p.charges)
       → AreMethodCosts set m p.shape p.fits p.charges.flags.items told p.costs.items → ((P : Program) → IsFlowOf P set.flow → IsTrue p.fits ↔ RegionFits P set.timing m)
       → (P : Program) → IsFlowOf P set.flow → CalleesAreKnown P set.timing table m → IsPreparedFor P set.timing (bounds_in set) table m p
@@ -138,7 +153,7 @@ module _ (ends : GraphsWhereTargetsEnd) (sums : CostsAreLimited) (set : BoundSet
       let g = shape k is in
       let graph = live g.0 g.1 P of told_end in
       let sum = costs.sums k is in
-      let limited_costs = sums P set.timing set.flow m k table told costs.own p.costs.items sum.0 g.0 of is c (costs.owned P k is (of.methods m k is)) costs.small (by_load P of) sum.2 graph in
+      let limited_costs = sums (told_costs P p costs.own sum.0 g.0) (record { flow = of; at = is; coded = c; graph = graph; own = costs.owned P k is (of.methods m k is); small = costs.small; told = by_load P of; added = sum.2 }) in
       record {
         graph = g.0;
         is_live = graph;

@@ -10,6 +10,8 @@ use Rattle.section_check.specs.Renumbering.{RenumberedStaysAccepted}
 use Rattle.method_flow.specs.Flow.{Flow, Coded, IsCoded, IsCodedOf, IsFlowOf}
 use Rattle.method_flow.specs.Kinds.{CallsAreInvokes, RowsAreOfTheirKinds}
 use Rattle.method_flow.specs.Nodes.{IsEdge}
+use Rattle.method_flow.specs.Keeping.{BoundOf}
+use Rattle.method_flow.specs.declared.timing.Timing.{Timing}
 use Rattle.flow_graph.proofs.Joining.{reached_alike}
 use Rattle.flow_graph.proofs.Starting.{IsPlaced, body, first_placed, next_placed}
 use Rattle.bound_rules.specs.Laws.{CalledFit, ReachesStarts}
@@ -18,7 +20,11 @@ use Rattle.compact_walks.specs.Moving.{IsMoved}
 use Rattle.compact_walks.specs.Laws.{GraphsAreMoved, MovedIsRenumbered, MovedReachesExit}
 use Rattle.wcet.specs.declared.found.Walked.{Walked}
 use Rattle.wcet.specs.declared.found.Walked.TheVariants.{Never, Shown, Large}
-use Rattle.wcet.specs.Prepared.{node_of}
+use Rattle.wcet.specs.declared.known.Known.{Known}
+use Rattle.wcet.specs.declared.prepared.Prepared.{Prepared}
+use Rattle.wcet.specs.declared.fit.Fit.{Fit}
+use Rattle.wcet.specs.Known.{CalleesAreKnown}
+use Rattle.wcet.specs.Prepared.{node_of, IsInShape, IsPreparedFor}
 use Rattle.wcet.specs.Found.{IsWalked, ShowsNumber, found_by, known_by, section_by, section_unless}
 use Rattle.wcet.specs.ShowLaws.{FoundShows}
 use Rattle.wcet.proofs.ShowSection.{meets}
@@ -37,8 +43,11 @@ pub if_shown : (K : CertSection → Type 0) (large : Bool) (s : CertSection) →
 if_shown K true s k = tt
 if_shown K false s k = k
 
-pub found_shows : ((code : List ℕ) → AreStarts code) → RowsAreOfTheirKinds → CallsAreInvokes → CalledFit → RenumberedStaysAccepted → GraphsAreMoved → MovedIsRenumbered → MovedReachesExit → FoundShows
-found_shows starts kinds invokes called stays moves renumbers exits P t bound_of f k table m p fit walked of is c ends in_shape h same w = by walked w
+section_shows : ((code : List ℕ) → AreStarts code) → RowsAreOfTheirKinds → CallsAreInvokes → CalledFit → RenumberedStaysAccepted → GraphsAreMoved → MovedIsRenumbered → MovedReachesExit
+    → (P : Program) (t : Timing) (bound_of : BoundOf) (f : Flow) (k : Coded) (table : List Known) (m : ℕ) (p : Prepared) (fit : Fit) (walked : Walked)
+    → IsFlowOf P f → slice_get f.methods m ≡ Some k → IsCoded k → CalleesAreKnown P t table m → IsInShape p → IsPreparedFor P t bound_of table m p → p.fits ≡ fit.fits → IsWalked p walked
+    → IfSome (found_by m fit walked).section (ShowsNumber P t bound_of table m (found_by m fit walked).known)
+section_shows starts kinds invokes called stays moves renumbers exits P t bound_of f k table m p fit walked of is c ends in_shape h same w = by walked w
   where
     reaches : ReachesStarts P m
     reaches = reaches_starts starts kinds P f m k of is c
@@ -55,3 +64,8 @@ found_shows starts kinds invokes called stays moves renumbers exits P t bound_of
         let other : MeetsSection P t bound_of earlier (section_by m fit s) (Some w.solution.value) = subst (λ (c : Certified). MeetsSection P t bound_of earlier (section_by m fit c) (Some w.solution.value)) (sym w.section_is) one in
         subst (λ (n : ℕ). MeetsSection P t bound_of earlier (section_by m fit s) (Some n)) (sym w.value_is) other)
     by (Large value) w = tt
+
+pub found_shows : ((code : List ℕ) → AreStarts code) → RowsAreOfTheirKinds → CallsAreInvokes → CalledFit → RenumberedStaysAccepted → GraphsAreMoved → MovedIsRenumbered → MovedReachesExit → FoundShows
+found_shows starts kinds invokes called stays moves renumbers exits x is =
+    section_shows starts kinds invokes called stays moves renumbers exits x.program x.timing x.bound_of x.flow x.coded x.table x.method x.prepared x.fit x.walked
+    is.flow is.at is.coded is.callees is.shape is.prepared is.fits is.walked

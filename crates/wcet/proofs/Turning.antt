@@ -208,5 +208,6 @@ pub graphs_where_targets_end : ((code : List ℕ) → AreStarts code) → RowsAr
 graphs_where_targets_end starts kinds P t f m k table back told g of is c ends are graph = live_graph starts kinds P t f of m k c is table back told are ends g graph
 
 pub costs_are_limited : ((code : List ℕ) → AreStarts code) → RowsAreOfTheirKinds → CostsAreLimited
-costs_are_limited starts kinds P t f m k table told own costs without g of is c owned small are added graph =
-    costs_limited starts kinds P t f of m k c is table (load P t.read m) told are refl own costs without owned small added g graph
+costs_are_limited starts kinds x h =
+    costs_limited starts kinds x.program x.timing x.flow h.flow x.method x.coded h.coded h.at x.table (load x.program x.timing.read x.method) x.told h.told refl x.own x.costs x.without
+    h.own h.small h.added x.graph h.graph

@@ -28,16 +28,41 @@ GraphsWhereTargetsEnd =
     (P : Program) (t : Timing) (f : Flow) (m : ℕ) (k : Coded) (table : List Known) (back : ℕ) (told : List Told) (g : Digraph) → IsFlowOf P f
     → slice_get f.methods m ≡ Some k → IsCoded k
     → CalleesAreKnown P t table m → AreToldBy table back f k.calls told → IsGraphBy (IsEdgeWhere P m k.calls (map (λ s. s.goes_on) told)) P m g
-        → IsLiveGraph P m g
+    → IsLiveGraph P m g
+
+-- the costs of a method's nodes: their own, what is told of its calls, and both together, where a call at the flagged ones costs nothing for loads; the
+-- table has what is known of methods
+pub record ToldCosts : Type 0 where
+  pub program : Program
+  pub timing : Timing
+  pub flow : Flow
+  pub table : List Known
+  pub method : ℕ
+  pub coded : Coded
+  pub graph : Digraph
+  pub own : List ℕ
+  pub told : List Told
+  pub without : List Bool
+  pub costs : List ℕ
+
+-- these belong together, on the live graph
+pub record AreToldCosts (x : ToldCosts) : Type 0 where
+  pub flow : IsFlowOf x.program x.flow
+  pub at : slice_get x.flow.methods x.method ≡ Some x.coded
+  pub coded : IsCoded x.coded
+  pub graph : IsLiveGraph x.program x.method x.graph
+  pub own : AreOwnCosts x.program x.timing x.method x.coded.code x.own
+  pub small : All (λ c. c < cycles_limit) x.own
+  pub told : AreToldBy x.table (load x.program x.timing.read x.method) x.flow x.coded.calls x.told
+  pub added : AreToldAdded x.own x.coded.calls x.told x.without x.costs
+
+-- what a call adds at a place
+abbrev pub added_by : ToldCosts → (place : ℕ) → ℕ
+added_by x q = adds_by x.program x.timing x.table x.method (slice_index_or x.without (2 * q) false) q
 
 -- costs with what is told of calls are the costs of the nodes of the live graph
 abbrev pub CostsAreLimited : Type 0
-CostsAreLimited =
-    (P : Program) (t : Timing) (f : Flow) (m : ℕ) (k : Coded) (table : List Known) (told : List Told) (own costs : List ℕ) (without : List Bool) (g : Digraph)
-    → IsFlowOf P f → slice_get f.methods m ≡ Some k → IsCoded k
-    → AreOwnCosts P t m k.code own → All (λ c. c < cycles_limit) own
-    → AreToldBy table (load P t.read m) f k.calls told → AreToldAdded own k.calls told without costs → IsLiveGraph P m g
-    → AreLimitedCosts P t m (λ q. adds_by P t table m (slice_index_or without (2 * q) false) q) g costs
+CostsAreLimited = (x : ToldCosts) → AreToldCosts x → AreLimitedCosts x.program x.timing x.method (added_by x) x.graph x.costs
 
 -- where the method is one of an order for which all is ready, its live graph has a nest, and each loop a bound
 abbrev pub ReadyHasShape : Type 0

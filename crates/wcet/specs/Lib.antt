@@ -2,6 +2,7 @@ pub mod Known
 pub mod Telling
 pub mod Prepared
 pub mod Found
+pub mod WalkedMethods
 pub mod Methods
 pub mod Laws
 pub mod Ready
