@@ -22,7 +22,8 @@ use Rattle.method_runs.specs.Standing.{last_node}
 use Rattle.method_runs.specs.Laws.{StepsFollowWalks, UnknownWalksStand}
 use Rattle.further_rules.specs.Known.{Known}
 use Rattle.counted_laws.specs.Visits.{Visit, Path, lengths_of}
-use Rattle.counted_laws.specs.Paths.{HoldConstants, HoldArrays, only_constants, HasPath, HavePaths, IsOfRun, RunsHoldKnown}
+use Rattle.further_rules.specs.Found.{only_constants}
+use Rattle.counted_laws.specs.Paths.{HoldConstants, HoldArrays, HasPath, HavePaths, IsOfRun, RunsHoldKnown}
 use Rattle.counted_laws.specs.Paths.IsOfRun.{next}
 use Rattle.counted_laws.specs.Counting.{CountsFurther, CountedPathsKeep, FurtherPathsKeep}
 use Rattle.counted_laws.proofs.Fields.{no_arrays}

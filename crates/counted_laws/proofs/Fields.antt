@@ -23,7 +23,8 @@ use Rattle.loop_rules.specs.Tests.{Constants}
 use Rattle.further_rules.specs.Known.{Known}
 use Rattle.further_rules.specs.Fields.{PutsArray, IsReferenceType, PutOnlyArrays}
 use Rattle.counted_laws.specs.Visits.{lengths_of, Grows, IsArrayOf}
-use Rattle.counted_laws.specs.Paths.{HoldConstants, HoldArrays, only_constants}
+use Rattle.further_rules.specs.Found.{only_constants}
+use Rattle.counted_laws.specs.Paths.{HoldConstants, HoldArrays}
 use Rattle.counted_laws.proofs.Storing.{replaced_same, replaced_other}
 use Rattle.counted_laws.proofs.Lengths.{same_grows, made_grows, still_array, Written}
 use Rattle.counted_laws.proofs.Doing.{MadeBy, IsPut, WrittenBy}

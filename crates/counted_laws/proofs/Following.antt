@@ -33,7 +33,8 @@ use Rattle.method_runs.specs.Steps.WalksStep.{moves, enters, returns, drops, end
 use Rattle.method_runs.specs.Laws.{GivesBytes, HasWalks, RunsHaveWalks, UnknownWalksStand}
 use Rattle.counted_laws.specs.Visits.{Visit, visit_of, lengths_of, Grows, HoldsValue, Passes, Path}
 use Rattle.counted_laws.specs.Visits.Path.{here, more}
-use Rattle.counted_laws.specs.Paths.{HoldConstants, HoldArrays, HoldKnown, only_constants, HasPath, WaitingPaths, HavePaths, RunsHavePaths}
+use Rattle.further_rules.specs.Found.{only_constants}
+use Rattle.counted_laws.specs.Paths.{HoldConstants, HoldArrays, HoldKnown, HasPath, WaitingPaths, HavePaths, RunsHavePaths}
 use Rattle.counted_laws.proofs.Lengths.{then_grows}
 use Rattle.counted_laws.proofs.Doing.{call_does}
 use Rattle.counted_laws.proofs.Stepping.{Facts, Did, Wrote, Result, at_same, at_or_raise, did}

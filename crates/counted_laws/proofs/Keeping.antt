@@ -22,7 +22,8 @@ use Rattle.bytecode_model.specs.Steps.{run_from}
 use Rattle.method_runs.specs.Runs.{Walks, walks_from, unknown_walks}
 use Rattle.counted_laws.specs.Visits.{Visit, Passes, Path}
 use Rattle.counted_laws.specs.Visits.Path.{here, more}
-use Rattle.counted_laws.specs.Paths.{only_constants, WaitingPaths, HavePaths, RunsHavePaths, RunsHoldArrays}
+use Rattle.further_rules.specs.Found.{only_constants}
+use Rattle.counted_laws.specs.Paths.{WaitingPaths, HavePaths, RunsHavePaths, RunsHoldArrays}
 use Rattle.counted_laws.specs.Counting.{CountsFurther, CountedLoopsAreFurther, FurtherPathsKeep, CountedPathsKeep, FramesCount, FramesCountFurther, CountedLoopsKeep, FurtherLoopsKeep}
 use Rattle.counted_laws.proofs.Cycles.{at_last, each_of}
 use Rattle.counted_laws.proofs.Turning.{Turning, at_most, onward, around, enter, begins_outside}

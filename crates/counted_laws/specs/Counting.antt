@@ -19,7 +19,8 @@ use Rattle.further_rules.specs.Beginning.{BeginsAt}
 use Rattle.method_runs.specs.Runs.{Walks, walks_from, boot_walks, unknown_walks}
 use Rattle.method_runs.specs.Laws.{GivesBytes}
 use Rattle.counted_laws.specs.Visits.{Visit, Path}
-use Rattle.counted_laws.specs.Paths.{HoldConstants, HoldKnown, only_constants}
+use Rattle.further_rules.specs.Found.{only_constants}
+use Rattle.counted_laws.specs.Paths.{HoldConstants, HoldKnown}
 
 -- The loop counts with a limit that is known where it is pushed, by one line or by several, and begins with one that is known, by whichever edge it is
 -- entered.

@@ -18,6 +18,7 @@ use Rattle.code_lines.specs.Lines.{IsNeverPut}
 use Rattle.loop_rules.specs.Tests.{Constants}
 use Rattle.further_rules.specs.Known.{Known}
 use Rattle.further_rules.specs.Fields.{PutOnlyArrays}
+use Rattle.further_rules.specs.Found.{only_constants}
 use Rattle.method_runs.specs.Runs.{Walks, walks_from, boot_walks, unknown_walks}
 use Rattle.method_runs.specs.Standing.{last_node}
 use Rattle.method_runs.specs.Laws.{GivesBytes}
@@ -49,10 +50,6 @@ pub record AreNullAtFirst (P : Program) (known : Known) : Type 0 where
 abbrev pub BootHoldsKnown : Type 0
 BootHoldsKnown =
     (P : Program) (known : Known) (s : State) → boot_state P ≡ Some s → AreNullAtFirst P known → HoldConstants P known.constants s → HoldKnown P known s
-
--- where constants alone are known
-abbrev pub only_constants : Constants → Known
-only_constants constants = record { constants = constants; statics = λ f. None; fields = λ owner index. None }
 
 -- ---- visits
 

@@ -4,8 +4,9 @@ use Rattle.std.specs.Option.{IsSomeAnd}
 use Rattle.std.specs.declared.option.Option.{Option}
 use Rattle.opcodes.specs.Start.{IsStart}
 use Rattle.bytecode_model.specs.Program.{Program, body_of}
+use Rattle.bytecode_model.specs.Rows.{Row}
 use Rattle.method_flow.specs.Nodes.{Node, At, IsEdge, IsReached}
-use Rattle.code_lines.specs.Lines.{IsNamed, Writes}
+use Rattle.code_lines.specs.Lines.{IsLine, IsNamed, Writes}
 use Rattle.further_rules.specs.Writing.{MayBeLast}
 use Rattle.further_rules.specs.Known.{Known, Pushes, PushesArray}
 
@@ -30,6 +31,10 @@ pub record IsReachedFromBefore (P : Program) (m to : ℕ) : Type 0 where
   pub stays : StaysAtStarts P m
   pub reached : IsReached (IsEdge P m) (At to)
   pub unnamed : ¬ IsNamed P m to
+
+-- so it comes to that line
+abbrev pub LinesBeforeAreReached : Type 0
+LinesBeforeAreReached = (P : Program) (m p to : ℕ) (r : Row) → IsReachedFromBefore P m to → IsLine P m p to r → IsReached (IsEdge P m) (At p)
 
 -- there lines push one int at most, from one place on
 abbrev pub PushedAreOne : Type 0

@@ -3,4 +3,8 @@ pub mod Known
 pub mod Fields
 pub mod Beginning
 pub mod Laws
+pub mod Leading
+pub mod Last
+pub mod Found
+pub mod Arrays
 pub mod Examples

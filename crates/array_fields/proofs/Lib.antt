@@ -1,0 +1,14 @@
+mod Telling
+mod Opcodes
+mod Reading
+mod Lining
+mod Filling
+mod Coding
+mod Collecting
+mod Meeting
+mod Starting
+mod Subclassing
+mod Keeping
+mod Knowing
+mod Arranging
+mod Setting

@@ -1,0 +1,38 @@
+-- The code of a method as it is searched.
+use Rattle.std.specs.Prelude.{◌≡◌, ℕ, ◌*◌, ◌/◌, ◌<◌, List, length, Contains}
+use Rattle.loop_nest.specs.Digraph.{Digraph, AreSources, sources_of}
+use Rattle.bytecode_model.specs.Program.{Program}
+use Rattle.method_flow.specs.Graphs.{IsGraphOf}
+use Rattle.code_scan.specs.Scans.{Scanned, IsScanOf}
+use Rattle.further_rules.specs.Known.{Known}
+use Rattle.loop_rules.specs.Sites.{AreNeverPut}
+use Rattle.further_rules.specs.Arrays.{AreApart}
+use Rattle.further_rules.specs.Laws.{StaysAtStarts}
+use Rattle.further_finder.specs.declared.parts.Part.{Part}
+use Rattle.further_finder.specs.Parts.{AreParts}
+
+-- what its instructions do, by place, which places are named and where instructions end, and its graph
+pub record CodeOf : Type 0 where
+  pub parts : List Part
+  pub scan : Scanned
+  pub graph : Digraph
+
+-- a graph with two nodes for each place, and for each node the sources of the edges to it
+pub record AreRoutes (c : CodeOf) (ss : List (List ℕ)) : Type 0 where
+  pub nodes : c.graph.nodes ≡ 2 * length c.parts
+  pub sources : AreSources c.graph.edges c.graph.nodes ss
+
+-- an edge leads to the instruction at the place
+pub record IsEntered (g : Digraph) (place : ℕ) : Type 0 where
+  pub within : place < g.nodes / 2
+  pub source : ℕ
+  pub edge : Contains (sources_of g.edges (2 * place)) source
+
+-- it is the method's
+pub record IsCodeOf (P : Program) (known : Known) (m : ℕ) (c : CodeOf) : Type 0 where
+  pub parts : AreParts P known m c.parts
+  pub scan : IsScanOf P m c.scan
+  pub graph : IsGraphOf P m c.graph
+  pub stays : StaysAtStarts P m
+  pub never_put : AreNeverPut P known.constants
+  pub apart : AreApart known

@@ -1,0 +1,10 @@
+pub mod Rows
+pub mod Told
+pub mod Arithmetic
+pub mod Parts
+pub mod Lines
+pub mod Code
+pub mod Knowing
+pub mod Rounds
+pub mod Laws
+pub mod Tables
