@@ -1,27 +1,32 @@
 -- How a loop counts by the test at a place.
-use Rattle.std.proofs.Common.{◌≡◌, ◌↔◌, ℕ, ◌+◌, ◌*◌, ◌%◌, ◌<◌, ◌≤◌, ℤ, Bool, true, false, List, [], length, get_or, take, Contains, Option, Some, None, refl, sym, ap, ◌∙◌, subst, inl, inr, arith}
-use Rattle.std.specs.Prelude.{not}
+use Rattle.std.proofs.Common.{◌≡◌, ◌↔◌, ℕ, ◌+◌, ◌*◌, ◌%◌, ◌<◌, ℤ, Bool, true, false, List, [], length, get_or, take, Contains, Option, Some, None, refl, sym, ap, ◌∙◌, subst, inl, inr, arith}
+use Rattle.std.specs.Prelude.{not, Vec}
+use Rattle.std.specs.declared.alloc.Global.{Global}
 use Rattle.std.proofs.lemmas.Bool.{false≢true}
-use Rattle.std.proofs.lemmas.List.{take_all}
 use Rattle.lists.specs.Members.{nil_contains}
+use Rattle.lists.proofs.Lemmas.{none≢some, some_same}
 use Rattle.section_check.specs.Least.{IsLeast, lesser_of}
-use Rattle.section_check.proofs.LeastLemmas.{least_same, least_either}
+use Rattle.section_check.proofs.LeastLemmas.{least_either}
 use Rattle.loop_nest.specs.Digraph.{Digraph}
 use Rattle.loop_nest.specs.Walks.{IsMember}
 use Rattle.code_scan.specs.declared.rows.Comparison.{Comparison}
 use Rattle.loop_rules.specs.Tests.{LeavesLoop}
 use Rattle.loop_rules.specs.Iterations.{ReachesWithout}
-use Rattle.loop_finder.specs.declared.acts.Test.{Test}
-use Rattle.loop_finder.specs.declared.acts.Act.{Act}
-use Rattle.loop_finder.specs.declared.acts.Act.TheVariants as does
+use Rattle.loop_acts.specs.declared.effects.Test.{Test}
+use Rattle.loop_acts.specs.declared.effects.Act.{Act}
+use Rattle.loop_acts.specs.declared.effects.Act.TheVariants as does
 use Rattle.loop_finder.specs.declared.counting.Choice.{Choice}
-use Rattle.loop_finder.specs.Acts.{act_at, taken_by}
-use Rattle.loop_finder.specs.Marking.{Marks, AreMarksOf, IsInner, IsWithout}
-use Rattle.loop_finder.specs.Reach.{flag_at}
-use Rattle.loop_finder.specs.Setting.{IsOnly, IsSetTo}
-use Rattle.loop_finder.specs.Counting.{Body, IsOnlyStep, IsChoice, Counts, CountsAt, CountsByNode, IsStepFound, IsLeaving, IsChoiceAt}
+use Rattle.loop_acts.specs.Acts.{act_at, taken_by}
+use Rattle.loop_marks.specs.Marking.{Marks, AreMarksOf, IsInner, IsWithout}
+use Rattle.loop_marks.specs.Reach.{flag_at}
+use Rattle.loop_finder.specs.declared.body.Beginnings.{Beginnings}
+use Rattle.loop_finder.specs.declared.body.Beginnings.TheVariants.{Stored, Listed}
+use Rattle.loop_acts.specs.Writing.{IsOnly}
+use Rattle.loop_finder.specs.Setting.{AreWritesBefore, IsOnlyEntry, IsSetTo}
+use Rattle.loop_finder.specs.declared.body.Beginning.{Beginning}
+use Rattle.loop_finder.specs.Counting.{AreBefore, AreBeforeBy, BeginsBy, BeginsIn, Body, begin_in, IsOnlyStep, IsChoice, Counts, CountsAt, CountsByNode, IsStepFound, IsLeaving, IsChoiceAt}
 use Rattle.loop_finder.proofs.Choosing.{leaves_one, none_inner}
-use Rattle.loop_finder.proofs.Taking.{take_has, take_keeps, take_cases}
+use Rattle.loop_acts.proofs.Taking.{take_has, take_keeps, take_cases}
 
 abbrev test_in : Test → Act → Test
 test_in d (does.Test t) = t
@@ -39,8 +44,8 @@ module _ (b : Body) (h p : ℕ) (t : Test) (act : act_at b.acts p ≡ does.Test 
   step_at : (k : Choice) (is : IsChoice b h k) → k.test ≡ p → IsOnlyStep b h t.local k.step k.by
   step_at k is same = subst (λ (u : Test). IsOnlyStep b h u.local k.step k.by) (test_is k is same) is.step
 
-  begin_at : (k : Choice) (is : IsChoice b h k) → k.test ≡ p → IsSetTo b.acts b.graph h t.local k.begin
-  begin_at k is same = subst (λ (u : Test). IsSetTo b.acts b.graph h u.local k.begin) (test_is k is same) is.begins
+  begin_at : (k : Choice) (is : IsChoice b h k) → k.test ≡ p → BeginsIn b h t.local k.begin
+  begin_at k is same = subst (λ (u : Test). BeginsIn b h u.local k.begin) (test_is k is same) is.begins
 
   pub no_leaving : IsLeaving b.graph h p t None → IsChoiceAt b h p None
   no_leaving none = λ k is same. none is.out (leaves_at k is same)
@@ -48,10 +53,10 @@ module _ (b : Body) (h p : ℕ) (t : Test) (act : act_at b.acts p ≡ does.Test 
   pub no_step : IsStepFound b h t.local None → IsChoiceAt b h p None
   no_step none = λ k is same. none k.step k.by (step_at k is same)
 
-  pub no_begin : IsOnly (IsSetTo b.acts b.graph h t.local) None → IsChoiceAt b h p None
+  pub no_begin : IsOnly (BeginsIn b h t.local) None → IsChoiceAt b h p None
   no_begin none = λ k is same. none k.begin (begin_at k is same)
 
-  pub one_choice : (out : Comparison) (step : ℕ) (by begin : ℤ) → IsLeaving b.graph h p t (Some out) → IsStepFound b h t.local (Some (step, by)) → IsOnly (IsSetTo b.acts b.graph h t.local) (Some begin)
+  pub one_choice : (out : Comparison) (step : ℕ) (by begin : ℤ) → IsLeaving b.graph h p t (Some out) → IsStepFound b h t.local (Some (step, by)) → IsOnly (BeginsIn b h t.local) (Some begin)
       → IsChoiceAt b h p (Some (record { test = p; step = step; by = by; begin = begin; out = out; limit = t.limit }))
   one_choice out step by begin leaves found set = record {
     is = record { test = t; is = act; step = found.0; begins = set.0; out = leaves.out; leaves = leaves.leaves; same = leaves.same };
@@ -67,6 +72,22 @@ module _ (b : Body) (h p : ℕ) (t : Test) (act : act_at b.acts p ≡ does.Test 
         };
   }
 
+-- ---- with what a local variable begins
+
+module _ (b : Body) (h k : ℕ) (o : Option ℤ) where
+  pub stored_only : b.begins ≡ Stored → (places : List ℕ) → AreBefore b h places
+      → ((entry : ℕ) → IsOnlyEntry b.graph h entry → AreWritesBefore b.acts b.graph entry places → IsOnly (IsSetTo b.acts b.graph h k) o) → IsOnly (BeginsIn b h k) o
+  stored_only stored places before only =
+      let w = subst (λ (x : Beginnings). AreBeforeBy x b.acts b.graph h places) stored before in
+      subst (λ (x : Beginnings). IsOnly (BeginsBy x b.acts b.graph h k) o) (sym stored) (only w.entry w.only w.writes)
+
+  pub listed_only : (xs : Vec Beginning Global) → b.begins ≡ Listed xs → o ≡ begin_in xs.items h k → IsOnly (BeginsIn b h k) o
+  listed_only xs listed is = subst (λ (x : Beginnings). IsOnly (BeginsBy x b.acts b.graph h k) o) (sym listed) (by o is)
+    where
+      by : (o : Option ℤ) → o ≡ begin_in xs.items h k → IsOnly (λ c. begin_in xs.items h k ≡ Some c) o
+      by None is = λ c e. none≢some c (is ∙ e)
+      by (Some c) is = (sym is, λ d e. some_same d c (sym e ∙ sym is))
+
 -- ---- on each iteration
 
 -- a node is reached without another one where its flag is set
@@ -78,6 +99,14 @@ flag_without g h x u flags without false is = (λ e r. false≢true (is ∙ (wit
 
 pub none_where_inner : (b : Body) (h p : ℕ) → IsInner b.graph h (2 * p) → IsLeast (CountsAt b h p) None
 none_where_inner b h p n = none_inner b h p (λ turn. n.differs (turn.once n.other n.header n.member n.within))
+
+-- ---- the way to the loop
+
+-- where the loop is not entered from one node alone
+pub no_entry : (b : Body) (h : ℕ) → b.begins ≡ Stored → ((u : ℕ) → ¬ IsOnlyEntry b.graph h u) → IsLeast (Counts b h) None
+no_entry b h stored none n c =
+    let set = subst (λ (x : Beginnings). BeginsBy x b.acts b.graph h c.1.1.test.local c.1.0.begin) stored c.1.1.begins in
+    none set.source set.entry
 
 -- ---- node by node
 
@@ -102,10 +131,5 @@ one_more b h nodes i a o lt =
     (λ n c. (c.0, take_keeps nodes i c.0 lt c.1, c.2)) (λ n c. (get_or nodes i 0, take_has nodes i 0 lt, c))
     (λ n c. elim (take_cases nodes i 0 c.0 lt c.1) [ inl before ↦ inl (c.0, before, c.2) | inr here ↦ inr (subst (λ (u : ℕ). CountsByNode b h u n) (sym here) c.2) ])
 
-pub all_nodes : (b : Body) (k : Marks) → AreMarksOf b.graph k → (i : ℕ) (o : Option ℕ) → length k.nodes ≤ i → IsLeast (CountsAmong b k.header (take i k.nodes)) o → IsLeast (Counts b k.header) o
-all_nodes b k marks i o done least =
-    least_same (CountsAmong b k.header k.nodes) (Counts b k.header) o (λ n c. (c.2.0, c.2.2)) (λ n c. (2 * c.0, has n c, (c.0, refl, c.1)))
-    (subst (λ (us : List ℕ). IsLeast (CountsAmong b k.header us) o) (take_all i k.nodes done) least)
-  where
-    has : (n : ℕ) (c : Counts b k.header n) → Contains k.nodes (2 * c.0)
-    has n c = (marks.nodes (2 * c.0)).1 (subst (λ (q : ℕ). IsMember b.graph k.header (2 * q)) c.1.2 c.1.3.each_test.member)
+pub counted_among : (b : Body) (k : Marks) → AreMarksOf b.graph k → (n : ℕ) → Counts b k.header n → CountsAmong b k.header k.nodes n
+counted_among b k marks n c = (2 * c.0, (marks.nodes (2 * c.0)).1 (subst (λ (q : ℕ). IsMember b.graph k.header (2 * q)) c.1.2 c.1.3.each_test.member), (c.0, refl, c.1))

@@ -11,7 +11,7 @@ use Rattle.loop_rules.specs.Tests.{LeavesLoop}
 use Rattle.loop_rules.specs.Tests.LeavesLoop.{where_taken, where_not}
 use Rattle.loop_rules.specs.Values.{IsFirstOut}
 use Rattle.loop_finder.specs.declared.counting.Choice.{Choice}
-use Rattle.loop_finder.specs.Values.{IsFirst}
+use Rattle.loop_acts.specs.Values.{IsFirst}
 use Rattle.loop_finder.specs.Counting.{Body, CountsFor, CountsAt, CountsByNode, IsChoice, IsFirstIf, IsLikeChoice, IsOnlyChoice}
 
 -- ---- first values
@@ -23,7 +23,7 @@ first_same first s out other n same is = record { ints = is.ints; leaves = sym (
 not_before : (first s : ℤ) (out : ℤ → Bool) (n k : ℕ) → IsFirstOut first s out n → IsFirstOut first s out k → k < n → ⊥
 not_before first s out n k a b less = false≢true (sym (a.stays k less) ∙ b.leaves)
 
-least_first : (first s : ℤ) (out : ℤ → Bool) (o : Option ℕ) → IsFirst first s out o → IsLeast (IsFirstOut first s out) o
+pub least_first : (first s : ℤ) (out : ℤ → Bool) (o : Option ℕ) → IsFirst first s out o → IsLeast (IsFirstOut first s out) o
 least_first first s out None none = none
 least_first first s out (Some n) is = (is, λ k less other. not_before first s out n k is other less)
 
@@ -75,6 +75,9 @@ like g h k other n test same c = record {
       (subst (λ (z : ℤ). IsFirstOut c.first z (λ value. test_of other.out other.limit value) n) same.by c.first_out);
 }
 
+pub counts_back : (b : Body) (h p : ℕ) (k : Choice) → IsOnlyChoice b h p k → (n : ℕ) → CountsAt b h p n → CountsFor b.graph h k n
+counts_back b h p k only n c = like b.graph h k c.0 n (c.2 ∙ sym only.test) (only.only c.0 c.1 c.2) c.3
+
 pub least_at : (b : Body) (h p : ℕ) (k : Choice) (o : Option ℕ) → IsOnlyChoice b h p k → IsLeast (CountsFor b.graph h k) o → IsLeast (CountsAt b h p) o
 least_at b h p k o only = least_same (CountsFor b.graph h k) (CountsAt b h p) o (λ n c. (k, only.is, only.test, c)) back
   where
@@ -89,7 +92,7 @@ none_inner b h p none n c = none (subst (λ (q : ℕ). IsOnEachIteration b.graph
 
 -- ---- by a node
 
-half : (p q : ℕ) → 2 * p ≡ 2 * q → p ≡ q
+pub half : (p q : ℕ) → 2 * p ≡ 2 * q → p ≡ q
 half p q e = omega arith
 
 pub least_by_node : (b : Body) (h p : ℕ) (o : Option ℕ) → IsLeast (CountsAt b h p) o → IsLeast (CountsByNode b h (2 * p)) o

@@ -5,8 +5,8 @@ use Rattle.std.proofs.lemmas.List.Elements.{All-contains, All-from_get_or, Conta
 use Rattle.loop_nest.specs.Digraph.{Digraph, Edge, sources_of}
 use Rattle.loop_nest.specs.Walks.{IsEntering}
 use Rattle.loop_nest.proofs.Searching.{sources_has, from_sources}
-use Rattle.loop_finder.specs.Reach.{flag_at}
-use Rattle.loop_finder.specs.Marking.{Marks, AreMarksOf}
+use Rattle.loop_marks.specs.Reach.{flag_at}
+use Rattle.loop_marks.specs.Marking.{Marks, AreMarksOf}
 use Rattle.loop_finder.specs.Setting.{IsOnlyEntry}
 
 module _ (g : Digraph) (k : Marks) (are : AreMarksOf g k) (xs : List ℕ) (is : xs ≡ sources_of g.edges k.header) where

@@ -21,9 +21,8 @@ use Rattle.flow_graph.specs.declared.numbering.Compact.{Compact}
 use Rattle.bound_rules.specs.Laws.{GraphsAreOne}
 use Rattle.compact_walks.specs.Moving.{IsMoved}
 use Rattle.compact_walks.specs.Laws.{MovedHeaders}
-use Rattle.loop_rules.specs.Tests.{Constants}
-use Rattle.loop_rules.specs.Counted.{IsCounted}
-use Rattle.loop_rules.specs.Finding.{IsCountedLoop}
+use Rattle.loop_acts.specs.Rules.{Rules}
+use Rattle.loop_finder.specs.Counted.{CountsWith, IsCountedWith}
 use Rattle.loop_finder.specs.declared.headers.LoopHeaders.{LoopHeaders}
 use Rattle.loop_finder.specs.declared.headers.LoopHeaders.TheVariants.{Irreducible, Reducible}
 use Rattle.loop_finder.specs.Headers.{AreHeadersOf, AreLeftIn, AreMethodHeaders, ArePlacesOf}
@@ -69,22 +68,22 @@ module _ (P : Program) (m : ℕ) (g : Digraph) (is : IsGraphOf P m g) (c : Compa
   left_is left leaves some nodes are = record { left = left; leaves = leaves; some = some; are = are }
 
 -- no loop counts where there are none
-pub none_unless_headed : GraphsAreOne → MovedHeaders → (P : Program) (constants : Constants) (m : ℕ) (g : Digraph) → IsGraphOf P m g → (d : Digraph) (node : ℕ → ℕ) → IsMoved g d node → (ls : List NaturalLoop) → IsNest d ls → ls ≡ []
-    → (bounds : List (ℕ × ℕ)) → bounds ≡ [] → AreMethodBounds P constants m bounds
-none_unless_headed graphs headers P constants m g is d node moved ls nest none bounds empty = subst (λ (xs : List (ℕ × ℕ)). AreMethodBounds P constants m xs) (sym empty) (record { rising = λ k lt. absurd (omega arith); each = each })
+pub none_unless_headed : GraphsAreOne → MovedHeaders → (P : Program) (rules : Rules) (m : ℕ) (g : Digraph) → IsGraphOf P m g → (d : Digraph) (node : ℕ → ℕ) → IsMoved g d node → (ls : List NaturalLoop) → IsNest d ls → ls ≡ []
+    → (bounds : List (ℕ × ℕ)) → bounds ≡ [] → AreMethodBounds P rules m bounds
+none_unless_headed graphs headers P rules m g is d node moved ls nest none bounds empty = subst (λ (xs : List (ℕ × ℕ)). AreMethodBounds P rules m xs) (sym empty) (record { rising = λ k lt. absurd (omega arith); each = each })
   where
     no_header : (x : ℕ) → IsHeader g x → ⊥
     no_header x header =
         let r = (headers g d node moved x).0 header in
         nil_contains r.0 (subst (λ (ks : List NaturalLoop). Contains (headers_of ks) r.0) none (nest.complete r.0 r.2))
 
-    each : (p n : ℕ) → Contains {X = ℕ × ℕ} [] (p, n) ↔ IsCountedLoop P constants (record { method = m; place = p; bound = n })
+    each : (p n : ℕ) → Contains {X = ℕ × ℕ} [] (p, n) ↔ IsCountedWith P rules (record { method = m; place = p; bound = n })
     each p n = (
       λ has. absurd (nil_contains (p, n) has),
       λ l.
           let same = graphs P m l.graph g l.is_graph is in
-          let counted = subst (λ (f : Digraph). IsCounted P constants m f p n) same l.counted in
-          absurd (no_header (number_of (At p)) counted.counts.each_step.member.0),
+          let counts = subst (λ (f : Digraph). CountsWith P rules m f p n) same l.counts in
+          absurd (no_header (number_of (At p)) counts.each_step.member.0),
     )
 
 -- ---- method by method

@@ -4,8 +4,9 @@ use Rattle.lists.specs.Members.{cons_cases, nil_contains}
 use Rattle.loop_nest.specs.Digraph.{Digraph, IsDigraph, Edge}
 use Rattle.loop_nest.proofs.Ends.{ends_within}
 use Rattle.path_solver.proofs.Apart.{few_apart}
-use Rattle.loop_finder.specs.declared.acts.Act.{Act}
-use Rattle.loop_finder.specs.Setting.{WritesAt, IsOnlySource, LastWriteFrom}
+use Rattle.loop_acts.specs.declared.effects.Act.{Act}
+use Rattle.loop_acts.specs.Writing.{WritesAt}
+use Rattle.loop_finder.specs.Setting.{IsOnlySource, LastWriteFrom}
 use Rattle.loop_finder.specs.Setting.LastWriteFrom.{here, before}
 
 pub half : (p q : ℕ) → 2 * p ≡ 2 * q → p ≡ q

@@ -11,10 +11,10 @@ use Rattle.code_scan.specs.declared.rows.Comparison.{Comparison}
 use Rattle.code_scan.specs.Rows.{test_of}
 use Rattle.loop_rules.specs.Tests.{LeavesLoop}
 use Rattle.loop_rules.specs.Tests.LeavesLoop.{where_taken, where_not}
-use Rattle.loop_finder.specs.declared.acts.Test.{Test}
-use Rattle.loop_finder.specs.Acts.{taken_by}
-use Rattle.loop_finder.specs.Reach.{flag_at}
-use Rattle.loop_finder.specs.Marking.{Marks, AreMarksOf}
+use Rattle.loop_acts.specs.declared.effects.Test.{Test}
+use Rattle.loop_acts.specs.Acts.{taken_by}
+use Rattle.loop_marks.specs.Reach.{flag_at}
+use Rattle.loop_marks.specs.Marking.{Marks, AreMarksOf}
 use Rattle.loop_finder.specs.Counting.{IsLeaving}
 
 one_target : (p q target : ℕ) (offset : ℤ) → IsAtOffset p offset q → IsAtOffset p offset target → q ≡ target

@@ -6,7 +6,8 @@ use Rattle.std.proofs.lemmas.List.Elements.{All-contains, All-from_get_or, Conta
 use Rattle.lists.specs.Members.{nil_contains}
 use Rattle.loop_nest.specs.Digraph.{Digraph, Edge, sources_of}
 use Rattle.loop_nest.proofs.Searching.{sources_has, from_sources}
-use Rattle.loop_finder.specs.Setting.{IsAlone, IsOnlyOf, IsOnlySource}
+use Rattle.loop_acts.specs.Writing.{IsAlone, IsOnlyOf}
+use Rattle.loop_finder.specs.Setting.{IsOnlySource}
 
 pub none_alone : (xs : List ℕ) → length xs ≡ 0 → (x : ℕ) → ¬ IsAlone (Contains xs) x
 none_alone xs e x a = nil_contains x (subst (λ (ys : List ℕ). Contains ys x) (nil_from_length xs e) a.0)

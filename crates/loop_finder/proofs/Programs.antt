@@ -13,7 +13,11 @@ use Rattle.loop_nest.specs.Digraph.{IsBefore}
 use Rattle.loop_nest.proofs.Elements.{from_map}
 use Rattle.loop_rules.specs.declared.found.FoundLoop.{FoundLoop}
 use Rattle.loop_rules.specs.Tests.{Constants}
-use Rattle.loop_rules.specs.Finding.{IsCountedLoop, AreCountedLoops, places_of}
+use Rattle.loop_rules.specs.Finding.{places_of, IsCountedLoop, AreCountedLoops}
+use Rattle.further_rules.specs.Known.{Known}
+use Rattle.loop_acts.specs.Rules.{Rules, further, plain}
+use Rattle.loop_finder.specs.Counted.{AreCountedWith, IsCountedWith}
+use Rattle.loop_finder.specs.Further.{AreCountedFurther, FurtherRulesAreRight, IsCountedFurther}
 use Rattle.loop_finder.specs.Methods.{AreMethodBounds, found_in}
 
 -- ---- lists that rise
@@ -55,19 +59,19 @@ appended_more m bounds i old now new lt is more =
 
 -- ---- the first methods
 
--- just the loops that count of the methods below m
-pub record AreFoundBelow (P : Program) (constants : Constants) (m : ℕ) (found : List FoundLoop) : Type 0 where
+-- just the loops that count by the rules of the methods below m
+pub record AreFoundBelow (P : Program) (rules : Rules) (m : ℕ) (found : List FoundLoop) : Type 0 where
   pub rising : AllAdjacentBelow IsBefore (places_of found) (length (places_of found))
-  pub each : (x : FoundLoop) → Contains found x ↔ (IsCountedLoop P constants x × (x.method < m))
+  pub each : (x : FoundLoop) → Contains found x ↔ (IsCountedWith P rules x × (x.method < m))
 
-module _ (P : Program) (constants : Constants) where
-  pub no_methods : AreFoundBelow P constants 0 []
+module _ (P : Program) (rules : Rules) where
+  pub no_methods : AreFoundBelow P rules 0 []
   no_methods = record {
     rising = λ k d lt. absurd (omega arith);
     each = λ x. (λ has. absurd (nil_contains x has), λ h. let below = h.1 in absurd (omega arith));
   }
 
-  pub method_more : (m : ℕ) (found : List FoundLoop) (bounds : List (ℕ × ℕ)) → AreFoundBelow P constants m found → AreMethodBounds P constants m bounds → AreFoundBelow P constants (m + 1) (found ++ map (found_in m) bounds)
+  pub method_more : (m : ℕ) (found : List FoundLoop) (bounds : List (ℕ × ℕ)) → AreFoundBelow P rules m found → AreMethodBounds P rules m bounds → AreFoundBelow P rules (m + 1) (found ++ map (found_in m) bounds)
   method_more m found bounds old are = record {
     rising =
         subst (λ (xs : List (ℕ × ℕ)). AllAdjacentBelow IsBefore xs (length xs)) (sym (map-append (λ (x : FoundLoop). (x.method, x.place)) found (map (found_in m) bounds)))
@@ -85,34 +89,76 @@ module _ (P : Program) (constants : Constants) where
           let second : m ≡ c.0 = ap (λ (z : FoundLoop). z.method) y.2 ∙ ap (λ (z : ℕ × ℕ). z.0) g.2 in
           inl (omega arith)
 
-      to : (x : FoundLoop) → Contains (found ++ map (found_in m) bounds) x → IsCountedLoop P constants x × (x.method < m + 1)
+      to : (x : FoundLoop) → Contains (found ++ map (found_in m) bounds) x → IsCountedWith P rules x × (x.method < m + 1)
       to x has =
           elim (Contains-append_cases found (map (found_in m) bounds) x has) [
             | inl before ↦ let h = (old.each x).0 before in let less = h.1 in (h.0, omega arith)
             | inr there ↦
                 let y = from_map (found_in m) bounds x there in
                 let same : m ≡ x.method = ap (λ (z : FoundLoop). z.method) y.2 in
-                (subst (IsCountedLoop P constants) y.2 ((are.each y.0.0 y.0.1).0 y.1), omega arith)
+                (subst (IsCountedWith P rules) y.2 ((are.each y.0.0 y.0.1).0 y.1), omega arith)
           ]
 
-      from : (x : FoundLoop) → IsCountedLoop P constants x × (x.method < m + 1) → Contains (found ++ map (found_in m) bounds) x
+      from : (x : FoundLoop) → IsCountedWith P rules x × (x.method < m + 1) → Contains (found ++ map (found_in m) bounds) x
       from x h =
           elim (cases_lt x.method m) [
             | inl less ↦ Contains-append_left found (map (found_in m) bounds) x ((old.each x).1 (h.0, less))
             | inr ge ↦
                 let less = h.1 in
                 let same : x.method ≡ m = omega arith in
-                let counted = subst (λ (k : ℕ). IsCountedLoop P constants (record { method = k; place = x.place; bound = x.bound })) same h.0 in
+                let counted = subst (λ (k : ℕ). IsCountedWith P rules (record { method = k; place = x.place; bound = x.bound })) same h.0 in
                 let has = map_contains (found_in m) bounds (x.place, x.bound) ((are.each x.place x.bound).1 counted) in
                 let is = subst (λ (k : ℕ). Contains (map (found_in m) bounds) (record { method = k; place = x.place; bound = x.bound })) (sym same) has in
                 Contains-append_right found (map (found_in m) bounds) x is
           ]
 
-  pub all_methods : (m : ℕ) (found : List FoundLoop) → AreFoundBelow P constants m found → ((k : ℕ) → IsSome (body_of P k) → k < m) → AreCountedLoops P constants found
+  pub all_methods : (m : ℕ) (found : List FoundLoop) → AreFoundBelow P rules m found → ((k : ℕ) → IsSome (body_of P k) → k < m) → AreCountedWith P rules found
   all_methods m found are below = record {
     rising = subst (λ (n : ℕ). AllAdjacentBelow IsBefore (places_of found) n) (length-map found (λ (x : FoundLoop). (x.method, x.place))) are.rising;
     each = λ x. (λ has. ((are.each x).0 has).0, λ counted. (are.each x).1 (counted, below x.method (coded x counted)));
   }
     where
-      coded : (x : FoundLoop) → IsCountedLoop P constants x → IsSome (body_of P x.method)
+      coded : (x : FoundLoop) → IsCountedWith P rules x → IsSome (body_of P x.method)
       coded x counted = let b = some_is (body_of P x.method) _ counted.is_graph.size in subst IsSome (sym b.1) refl
+
+-- ---- the loops that count by the plain rules
+
+module _ (P : Program) (constants : Constants) where
+  is_counted : (x : FoundLoop) → IsCountedWith P (plain P constants) x ↔ IsCountedLoop P constants x
+  is_counted x = (
+    λ h. record { graph = h.graph; is_graph = h.is_graph; reducible = h.reducible; counted = record { counts = h.counts; least = h.least } },
+    λ h. record { graph = h.graph; is_graph = h.is_graph; reducible = h.reducible; counts = h.counted.counts; least = h.counted.least },
+  )
+
+  pub are_counted : (found : List FoundLoop) → AreCountedWith P (plain P constants) found → AreCountedLoops P constants found
+  are_counted found are = record {
+    rising = are.rising;
+    each = λ x. (λ has. (is_counted x).0 ((are.each x).0 has), λ counted. (are.each x).1 ((is_counted x).1 counted));
+  }
+
+-- ---- the loops that count by what is known further
+
+module _ (right : FurtherRulesAreRight) (P : Program) (known : Known) where
+  is_further : (x : FoundLoop) → IsCountedWith P (further P known) x ↔ IsCountedFurther P known x
+  is_further x = (
+    λ h. record {
+      graph = h.graph;
+      is_graph = h.is_graph;
+      reducible = h.reducible;
+      counts = (right P known x.method h.graph x.place x.bound h.is_graph).0 h.counts;
+      least = λ other counts. h.least other ((right P known x.method h.graph x.place other h.is_graph).1 counts);
+    },
+    λ h. record {
+      graph = h.graph;
+      is_graph = h.is_graph;
+      reducible = h.reducible;
+      counts = (right P known x.method h.graph x.place x.bound h.is_graph).1 h.counts;
+      least = λ other counts. h.least other ((right P known x.method h.graph x.place other h.is_graph).0 counts);
+    },
+  )
+
+  pub are_further : (found : List FoundLoop) → AreCountedWith P (further P known) found → AreCountedFurther P known found
+  are_further found are = record {
+    rising = are.rising;
+    each = λ x. (λ has. (is_further x).0 ((are.each x).0 has), λ counted. (are.each x).1 ((is_further x).1 counted));
+  }

@@ -253,7 +253,7 @@ module _ (P : Program) (m : ℕ) (g : Digraph) (is : IsGraphOf P m g) where
       let to_u = reachable r in
       step_on to_u.1 ((is.edges (number_of u) (number_of v)).1 (record { source = u; target = v; reached = r; edge = e; numbered = (refl, refl) }))
 
-  from_reached : (u v : ℕ) → Edge g u v → IsReachable g u
+  pub from_reached : (u v : ℕ) → Edge g u v → IsReachable g u
   from_reached u v e = let r = (is.edges u v).0 e in subst (λ (z : ℕ). IsReachable g z) (sym r.numbered.0) (reachable r.reached)
 
   no_loops_by : LeadsUp g → (c : Compact) → IsCompactOf g c → HasNoLoops g

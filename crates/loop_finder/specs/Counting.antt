@@ -1,5 +1,6 @@
 -- How often a loop goes round, by acts and numbers of nodes.
-use Rattle.std.specs.Prelude.{◌≡◌, ◌≢◌, ◌↔◌, ◌==◌, ℕ, ◌*◌, ℤ, pos, Bool, false, not, List, map, Some, None, Contains, MatchOption, MatchBool}
+use Rattle.std.specs.Prelude.{◌≡◌, ◌≢◌, ◌↔◌, ◌⊎◌, ◌==◌, ℕ, ◌*◌, ◌≤◌, ℤ, ◌+ℤ◌, pos, Bool, ◌&&◌, if◌then◌else◌}
+use Rattle.std.specs.Prelude.{List, [], ◌∷◌, map, Some, None, Contains, IfSome, MatchOption, MatchBool}
 use Rattle.std.specs.declared.option.Option.{Option}
 use Rattle.std.specs.List.Sorted.{IsStrictlyIncreasing}
 use Rattle.loop_nest.specs.Digraph.{Digraph}
@@ -10,18 +11,42 @@ use Rattle.code_scan.specs.Rows.{test_of}
 use Rattle.loop_rules.specs.Tests.{LeavesLoop}
 use Rattle.loop_rules.specs.Iterations.{IsOnEachIteration, FirstTested}
 use Rattle.loop_rules.specs.Values.{IsFirstOut}
-use Rattle.loop_finder.specs.declared.acts.Test.{Test}
-use Rattle.loop_finder.specs.declared.acts.Act.{Act}
-use Rattle.loop_finder.specs.declared.acts.Act.TheVariants as does
+use Rattle.loop_marks.specs.Marking.{IsRest}
+use Rattle.loop_acts.specs.declared.effects.Test.{Test}
+use Rattle.loop_acts.specs.declared.effects.Act.{Act}
+use Rattle.loop_acts.specs.declared.effects.Act.TheVariants as does
+use Rattle.loop_finder.specs.declared.body.Beginning.{Beginning}
+use Rattle.loop_finder.specs.declared.body.Beginnings.{Beginnings}
+use Rattle.loop_finder.specs.declared.body.Beginnings.TheVariants.{Stored, Listed}
 use Rattle.loop_finder.specs.declared.counting.Choice.{Choice}
-use Rattle.loop_finder.specs.Acts.{act_at, taken_by}
-use Rattle.loop_finder.specs.Setting.{WritesAt, IsSetTo}
-use Rattle.loop_finder.specs.Values.{IsFirst}
+use Rattle.loop_finder.specs.declared.counting.Known.{Known}
+use Rattle.loop_acts.specs.Acts.{act_at, taken_by}
+use Rattle.loop_acts.specs.Writing.{WritesAt}
+use Rattle.loop_finder.specs.Setting.{IsSetTo, IsOnlyEntry, AreWritesBefore}
+use Rattle.loop_acts.specs.Values.{IsFirst}
 
--- what the instructions of a method do, by place, and its graph
+-- what the instructions of a method do, by place, its graph, and with what local variables begin in its loops
 pub record Body : Type 0 where
   pub acts : List Act
   pub graph : Digraph
+  pub begins : Beginnings
+
+-- the entry is for the loop with this header and this local variable
+abbrev pub is_begin_of : (header local : ℕ) → Beginning → Bool
+is_begin_of h k x = (x.header == h) && (x.local == k)
+
+-- the int of the first such entry
+abbrev pub begin_in : List Beginning → (header local : ℕ) → Option ℤ
+begin_in [] h k = None
+begin_in (x ∷ xs) h k = if is_begin_of h k x then Some x.value else begin_in xs h k
+
+-- in the loop with this header the local variable begins with the int: with what is stored on the one way to the loop, or with what is listed
+abbrev pub BeginsBy : Beginnings → List Act → Digraph → (h local : ℕ) → ℤ → Type 0
+BeginsBy Stored acts g h k c = IsSetTo acts g h k c
+BeginsBy (Listed xs) acts g h k c = begin_in xs.items h k ≡ Some c
+
+abbrev pub BeginsIn : Body → (h local : ℕ) → ℤ → Type 0
+BeginsIn b h k c = BeginsBy b.begins b.acts b.graph h k c
 
 -- a step of the local variable by s stands at the place, and no other member writes the variable
 pub record IsOnlyStep (b : Body) (h local step : ℕ) (s : ℤ) : Type 0 where
@@ -35,7 +60,7 @@ pub record IsChoice (b : Body) (h : ℕ) (k : Choice) : Type 0 where
   pub test : Test
   pub is : act_at b.acts k.test ≡ does.Test test
   pub step : IsOnlyStep b h test.local k.step k.by
-  pub begins : IsSetTo b.acts b.graph h test.local k.begin
+  pub begins : BeginsIn b h test.local k.begin
   pub out : ℤ → Bool
   pub leaves : LeavesLoop b.graph h k.test test.next test.offset (taken_by test) out
   pub same : (value : ℤ) → out value ≡ test_of k.out k.limit value
@@ -67,18 +92,19 @@ pub record AreBounds (b : Body) (found : List (ℕ × ℕ)) : Type 0 where
 
 -- ---- what is found on the way
 
--- the node is an instruction at the place that writes the local variable
-abbrev pub IsWriterAt : List Act → (node local place : ℕ) → Type 0
-IsWriterAt acts u local p = (u ≡ 2 * p) × WritesAt acts local p
+-- these are the writes before the loop, which is entered from one node alone
+pub record AreOnlyBefore (acts : List Act) (g : Digraph) (h : ℕ) (places : List ℕ) : Type 0 where
+  pub entry : ℕ
+  pub only : IsOnlyEntry g h entry
+  pub writes : AreWritesBefore acts g entry places
 
--- one of these nodes is an instruction at the place that writes the local variable
-abbrev pub IsWriterAmong : List Act → List ℕ → (local : ℕ) → (place : ℕ) → Type 0
-IsWriterAmong acts nodes local p = Contains nodes (2 * p) × WritesAt acts local p
+-- they are, where local variables begin with what is stored there
+abbrev pub AreBeforeBy : Beginnings → List Act → Digraph → (h : ℕ) → (places : List ℕ) → Type 0
+AreBeforeBy Stored acts g h places = AreOnlyBefore acts g h places
+AreBeforeBy (Listed xs) acts g h places = Unit {0}
 
--- another place was found
-abbrev pub is_other : Option ℕ → (place : ℕ) → Bool
-is_other None p = false
-is_other (Some q) p = not (q == p)
+abbrev pub AreBefore : Body → (h : ℕ) → (places : List ℕ) → Type 0
+AreBefore b h places = AreBeforeBy b.begins b.acts b.graph h places
 
 -- what the act adds to the local variable, where that isn't 0
 abbrev pub IsAddedBy : Act → (local : ℕ) → Option ℤ → Type 0
@@ -113,6 +139,28 @@ pub record IsOnlyChoice (b : Body) (h place : ℕ) (k : Choice) : Type 0 where
 
 abbrev pub IsChoiceAt : Body → (h place : ℕ) → Option Choice → Type 0
 IsChoiceAt b h p o = MatchOption o ((k : Choice) → IsChoice b h k → k.test ≢ p) (IsOnlyChoice b h p)
+
+-- what is known of the choice for the test at a node: there is no such number, or this is the choice
+abbrev pub IsChoiceOf : Body → (h node : ℕ) → Option Choice → Type 0
+IsChoiceOf b h u o = MatchOption o ((n : ℕ) → ¬ CountsByNode b h u n) (λ k. (p : ℕ) × (u ≡ 2 * p) × IsOnlyChoice b h p k)
+
+-- the number of the first value that leaves the loop, whether test or step comes first
+abbrev pub IsFirstOutEither : Choice → (n : ℕ) → Type 0
+IsFirstOutEither k n =
+    IsFirstOut k.begin k.by (λ value. test_of k.out k.limit value) n ⊎ IsFirstOut (k.begin +ℤ k.by) k.by (λ value. test_of k.out k.limit value) n
+
+-- the least number that is known or has the property
+abbrev pub IsLeastBeside : Option ℕ → (ℕ → Type 0) → Option ℕ → Type 0
+IsLeastBeside known P o = IsLeast (λ n. (known ≡ Some n) ⊎ P n) o
+
+-- a number is known that is not above this one, if there is this one
+abbrev pub IsSettled : (known soonest : Option ℕ) → Type 0
+IsSettled known soonest = (n : ℕ) → soonest ≡ Some n → (m : ℕ) × (known ≡ Some m) × (m ≤ n)
+
+-- what is known stays right where a number with the property was looked for, and is then the least one beside
+pub record IsLookedAt (g : Digraph) (h : ℕ) (P : ℕ → Type 0) (old new : Known) : Type 0 where
+  pub rest : IfSome old.rest (λ flags. IsRest g h flags.items) → IfSome new.rest (λ flags. IsRest g h flags.items)
+  pub least : IfSome old.rest (λ flags. IsRest g h flags.items) → IsLeastBeside old.least P new.least
 
 -- where the flag is set, the number of the first value that leaves the loop
 abbrev pub IsFirstIf : Bool → (first : ℤ) → Choice → Option ℕ → Type 0

@@ -1,10 +1,8 @@
-pub mod Values
-pub mod Reach
-pub mod Acts
-pub mod Reading
-pub mod Marking
+pub mod Counted
+pub mod Further
 pub mod Setting
 pub mod Counting
+pub mod Beginning
 pub mod Methods
 pub mod Headers
 pub mod Laws

@@ -1,5 +1,5 @@
 -- The loops of a method, and of methods one after another.
-use Rattle.std.specs.Prelude.{◌≡◌, ◌↔◌, ℕ, ◌*◌, List, [], ◌∷◌, ◌++◌, length, map, Contains, Some, None, slice_index}
+use Rattle.std.specs.Prelude.{◌≡◌, ◌↔◌, ℕ, ◌*◌, ℤ, List, [], ◌∷◌, ◌++◌, length, map, Contains, Some, None, slice_index}
 use Rattle.std.specs.declared.option.Option.{Option}
 use Rattle.std.specs.List.Sorted.{IsStrictlyIncreasing}
 use Rattle.section_check.specs.Least.{IsLeast}
@@ -8,11 +8,13 @@ use Rattle.loop_nest.specs.Digraph.{Digraph}
 use Rattle.loop_nest.specs.Nest.{NaturalLoop, IsNest, header_at}
 use Rattle.method_flow.specs.Compact.{IsCompact}
 use Rattle.loop_rules.specs.declared.found.FoundLoop.{FoundLoop}
-use Rattle.loop_rules.specs.Tests.{Constants}
-use Rattle.loop_rules.specs.Finding.{IsCountedLoop}
-use Rattle.loop_finder.specs.declared.acts.Act.{Act}
-use Rattle.loop_finder.specs.Acts.{AreActs}
-use Rattle.loop_finder.specs.Counting.{AreBounds, Body, Counts}
+use Rattle.loop_acts.specs.declared.effects.Act.{Act}
+use Rattle.loop_acts.specs.Acts.{AreActs}
+use Rattle.loop_acts.specs.Rules.{Rules}
+use Rattle.loop_finder.specs.Counted.{IsCountedWith}
+use Rattle.loop_finder.specs.declared.body.Beginnings.{Beginnings}
+use Rattle.loop_finder.specs.Counting.{AreBounds, BeginsIn, Body, Counts}
+use Rattle.loop_finder.specs.Beginning.{IsSteppedAt}
 
 -- these are the loops of the compact graph of g, whose nodes have these numbers in g
 pub record IsNestBy (g : Digraph) (nodes : List ℕ) (ls : List NaturalLoop) : Type 0 where
@@ -30,16 +32,22 @@ abbrev pub with_bound : List (ℕ × ℕ) → Option (ℕ × ℕ) → List (ℕ 
 with_bound bounds None = bounds
 with_bound bounds (Some x) = bounds ++ x ∷ []
 
--- by what the method's instructions do, these are the bounds of the loops of a graph
-pub record AreBoundsBy (P : Program) (constants : Constants) (m : ℕ) (g : Digraph) (bounds : List (ℕ × ℕ)) : Type 0 where
-  pub acts : List Act
-  pub are_acts : AreActs P constants m acts
-  pub are_bounds : AreBounds (record { acts = acts; graph = g }) bounds
+-- by the body a local variable that has its only step in a loop, on each iteration, begins there with what it does by the rules
+abbrev pub AreBeginsBy : Rules → (method : ℕ) → Body → Type 0
+AreBeginsBy rules m b = (h k u : ℕ) (c : ℤ) → IsSteppedAt b (2 * h) k u → rules.begins m b.graph h k c ↔ BeginsIn b (2 * h) k c
 
--- just the loops of the method that count, by the places of their headers, with their bounds
-pub record AreMethodBounds (P : Program) (constants : Constants) (m : ℕ) (bounds : List (ℕ × ℕ)) : Type 0 where
+-- by what the method's instructions do, and with what local variables begin, these are the bounds of the loops of a graph
+pub record AreBoundsBy (P : Program) (rules : Rules) (m : ℕ) (g : Digraph) (bounds : List (ℕ × ℕ)) : Type 0 where
+  pub acts : List Act
+  pub begins : Beginnings
+  pub are_acts : AreActs P rules m acts
+  pub are_begins : AreBeginsBy rules m (record { acts = acts; graph = g; begins = begins })
+  pub are_bounds : AreBounds (record { acts = acts; graph = g; begins = begins }) bounds
+
+-- just the loops of the method that count by the rules, by the places of their headers, with their bounds
+pub record AreMethodBounds (P : Program) (rules : Rules) (m : ℕ) (bounds : List (ℕ × ℕ)) : Type 0 where
   pub rising : IsStrictlyIncreasing (map (λ x. x.0) bounds)
-  pub each : (p n : ℕ) → Contains bounds (p, n) ↔ IsCountedLoop P constants (record { method = m; place = p; bound = n })
+  pub each : (p n : ℕ) → Contains bounds (p, n) ↔ IsCountedWith P rules (record { method = m; place = p; bound = n })
 
 abbrev pub found_in : (method : ℕ) → ℕ × ℕ → FoundLoop
 found_in m x = record { method = m; place = x.0; bound = x.1 }

@@ -1,14 +1,11 @@
 -- The last write of a local variable before a loop, by numbers of nodes and by acts.
-use Rattle.std.specs.Prelude.{◌≡◌, ◌≢◌, ℕ, ◌*◌, ℤ, List, Contains, Option, Some, None, MatchOption}
+use Rattle.std.specs.Prelude.{◌≡◌, ◌≢◌, ◌⊎◌, ℕ, ◌*◌, ◌<◌, ℤ, List, [], ◌∷◌, ◌++◌, length, slice_index, Some}
 use Rattle.loop_nest.specs.Digraph.{Digraph, Edge}
 use Rattle.loop_nest.specs.Walks.{IsEntering}
-use Rattle.loop_finder.specs.declared.acts.Act.{Act}
-use Rattle.loop_finder.specs.declared.acts.Act.TheVariants as does
-use Rattle.loop_finder.specs.Acts.{act_at, written}
-
--- the instruction at the place writes the local variable
-abbrev pub WritesAt : List Act → (local place : ℕ) → Type 0
-WritesAt acts k p = Contains (written (act_at acts p)) k
+use Rattle.loop_acts.specs.Writing.{WritesAt}
+use Rattle.loop_acts.specs.declared.effects.Act.{Act}
+use Rattle.loop_acts.specs.declared.effects.Act.TheVariants as does
+use Rattle.loop_acts.specs.Acts.{act_at}
 
 -- the node is the one from which another one is entered, which isn't node 0
 pub record IsOnlySource (g : Digraph) (u w : ℕ) : Type 0 where
@@ -20,6 +17,25 @@ pub record IsOnlySource (g : Digraph) (u w : ℕ) : Type 0 where
 pub data LastWriteFrom (acts : List Act) (g : Digraph) (local : ℕ) : (node place : ℕ) → Type 0 where
   here : {u p : ℕ} → u ≡ 2 * p → WritesAt acts local p → LastWriteFrom acts g local u p
   before : {u w p : ℕ} → ((q : ℕ) → u ≡ 2 * q → ¬ WritesAt acts local q) → IsOnlySource g u w → LastWriteFrom acts g local w p → LastWriteFrom acts g local u p
+
+-- the places, the last first, of the instructions that write local variables on the way backwards from a node: the first of them that writes a variable is
+-- the variable's last write, and one that none of them writes has no last write
+pub record AreWritesBefore (acts : List Act) (g : Digraph) (from : ℕ) (places : List ℕ) : Type 0 where
+  pub first : (local i : ℕ) → i < length places → WritesAt acts local (slice_index places i) → ((j : ℕ) → j < i → ¬ WritesAt acts local (slice_index places j))
+      → LastWriteFrom acts g local from (slice_index places i)
+  pub none : (local : ℕ) → ((i : ℕ) → i < length places → ¬ WritesAt acts local (slice_index places i)) → (p : ℕ) → ¬ LastWriteFrom acts g local from p
+
+-- the node's instruction was added to these places, if it writes a local variable
+abbrev pub IsAddedWrite : List Act → (node : ℕ) → (old new : List ℕ) → Type 0
+IsAddedWrite acts u old new = (((local p : ℕ) → u ≡ 2 * p → ¬ WritesAt acts local p) × (new ≡ old)) ⊎ ((p : ℕ) × (u ≡ 2 * p) × (new ≡ old ++ p ∷ []))
+
+-- the first of these places that writes the local variable
+pub record IsFirstWrite (acts : List Act) (local : ℕ) (places : List ℕ) (p : ℕ) : Type 0 where
+  pub index : ℕ
+  pub below : index < length places
+  pub is : slice_index places index ≡ p
+  pub writes : WritesAt acts local p
+  pub before : (j : ℕ) → j < index → ¬ WritesAt acts local (slice_index places j)
 
 -- the loop is entered from this node alone
 pub record IsOnlyEntry (g : Digraph) (h u : ℕ) : Type 0 where
@@ -34,20 +50,3 @@ pub record IsSetTo (acts : List Act) (g : Digraph) (h local : ℕ) (c : ℤ) : T
   pub last : LastWriteFrom acts g local source place
   pub stored : ℕ
   pub store : act_at acts place ≡ does.Set stored (Some c)
-
--- it holds of this one, and of no other
-abbrev pub IsAlone : {X : Type 0} → (X → Type 0) → X → Type 0
-IsAlone {X} K x = K x × ((y : X) → K y → y ≡ x)
-
--- the only one of which it holds, or none where there are none or several
-abbrev pub IsOnlyOf : {X : Type 0} → (X → Type 0) → Option X → Type 0
-IsOnlyOf {X} K o = MatchOption o ((x : X) → ¬ IsAlone K x) (IsAlone K)
-
--- one of which it holds, and of no other one; or none
-abbrev pub IsOnly : {X : Type 0} → (X → Type 0) → Option X → Type 0
-IsOnly {X} K o = MatchOption o ((x : X) → ¬ K x) (IsAlone K)
-
--- the constant that an act stores
-abbrev pub stored_by : Act → Option ℤ
-stored_by (does.Set k o) = o
-stored_by a = None

@@ -3,31 +3,55 @@
 ghost use Rattle.std.specs.Prelude.{◌≡◌, ◌↔◌, ℕ, ◌<◌, List, [], length, All, IsTrue, IfOk, OnOk, slice_index};
 ghost use Rattle.bytecode_model.specs.Program.{Program};
 ghost use Rattle.loop_nest.specs.Digraph.{Digraph};
-ghost use Rattle.loop_nest.specs.Nest.{IsNest};
+ghost use Rattle.loop_nest.specs.Nest.{IsNest, header_at};
 ghost use Rattle.loop_nest.specs.Reduction.{IsReducible};
 ghost use Rattle.method_flow.specs.Compact.{IsCompact};
 ghost use Rattle.method_flow.specs.Graphs.{IsGraphOf};
 ghost use Rattle.method_flow.specs.Flow.{IsCodedOf, IsFlowOf};
 ghost use Rattle.compact_walks.specs.Moving.{IsMoved};
 ghost use Rattle.loop_rules.specs.Finding.{AreCountedLoops};
-ghost use Rattle.loop_rules.specs.Sites.{AreIntSites, AreNeverPut, AreSitesOf, constants_in};
-ghost use Rattle.loop_rules.specs.Tests.{Constants};
+ghost use Rattle.loop_rules.specs.Sites.{AreIntSites, constants_in};
+ghost use Rattle.further_rules.specs.Arrays.{AreTables};
+ghost use Rattle.further_rules.specs.Known.{Known};
+ghost use Rattle.loop_finder.specs.Beginning.{AddsBeginnings, AreBeginnings, IsBodyOf, IsSteppedAt};
+ghost use Rattle.loop_acts.specs.Writing.{IsIdle};
 ghost use Rattle.loop_finder.specs.Counting.{AreBounds};
+ghost use Rattle.loop_finder.specs.Further.{AreCountedFurther};
 ghost use Rattle.loop_finder.specs.Headers.{AreHeadersOf, AreMethodHeaders, ArePlacesOf, LeadsUp};
+ghost use Rattle.loop_acts.specs.Acts.{AreActs};
+ghost use Rattle.loop_acts.specs.Reading.{AreIntsBy};
+ghost use Rattle.loop_acts.specs.Rules.{Given, further, rules_by};
 ghost use Rattle.loop_finder.specs.Methods.{AreBoundsBy, AreMethodBounds, IsAppended, IsBoundOfLoop, IsNestBy, with_bound};
 
-use crate::counting::{MethodBody, bound_of};
+use crate::beginning::add_of_loop;
+use crate::body::{Beginning, Beginnings, MethodBody};
+use crate::counting::bound_of;
 use crate::headers::{LoopHeaders, header_places};
-use crate::iterations::{Routes, marks_of};
-use crate::reading::acts;
 use base::NoMemory;
 use compact_walks::numbers;
 use flow_graph::{compact, whole_graph};
+use further_rules::KnownTable;
+use loop_acts::{Act, MethodInts, acts, is_idle};
+use loop_marks::{Routes, marks_of};
 use loop_nest::loops::{Nest, NestFault};
 use loop_nest::{Graph, nest};
-use loop_rules::{FoundLoop, IntSites, MethodSites};
+use loop_rules::{FoundLoop, IntSites};
 use method_flow::{FlowMethod, FlowProgram};
 use std::alloc::Global;
+
+/// Whether none of these members is an instruction that writes a local variable, where `nodes` gives the numbers of the nodes in the whole
+/// graph.
+fn are_idle(acts: &[Act], nodes: &[u32], members: &[u32]) -> bool
+    requires { All (λ u. u < length nodes.now) members.now }
+    ensures { IsTrue result → All (λ u. IsIdle acts.now (slice_index nodes.now u)) members.now }
+{
+    for u in members {
+        if !is_idle(acts, nodes[*u as usize]) {
+            return false;
+        }
+    }
+    true
+}
 
 /// The place of the header of a loop of a nest and the loop's least number, if it counts.
 fn bound_of_loop(
@@ -42,7 +66,30 @@ fn bound_of_loop(
     ensures { IfOk result (λ bound. (d : Digraph) → IsMoved body.now.graph d (slice_index nodes.now) → IsNest d nest.now
         → IsBoundOfLoop body.now (slice_index nodes.now) nest.now index bound) }
 {
-    let marks = marks_of(alloc, nest, nodes, index, body.routes.nodes() as usize)?;
+    let _ = body.routes.nodes();
+    let l = &nest.loops()[index];
+    // A loop that writes nothing has no step, and its tests need no search.
+    if are_idle(&body.acts, nodes, l.members()) {
+        return Ok(None);
+    }
+    bound_of_marked_loop(alloc, body, nest, nodes, index)
+}
+
+/// The same, by the marks of the loop.
+fn bound_of_marked_loop(
+    alloc: Global,
+    body: &MethodBody,
+    nest: &Nest,
+    nodes: &[u32],
+    index: usize,
+) -> Result<Option<(u32, u32)>, NoMemory>
+    requires index { index < length nest.now }
+    requires nest { IsNestBy body.now.graph nodes.now nest.now }
+    ensures { IfOk result (λ bound. (d : Digraph) → IsMoved body.now.graph d (slice_index nodes.now) → IsNest d nest.now
+        → IsBoundOfLoop body.now (slice_index nodes.now) nest.now index bound) }
+{
+    let _ = body.routes.nodes();
+    let marks = marks_of(alloc, nest, nodes, index)?;
     if marks.header() % 2 == 1 {
         return Ok(None);
     }
@@ -82,22 +129,115 @@ fn bounds_of_nest(
     Ok(bounds)
 }
 
+/// Adds with what local variables begin in a loop of a nest, if they have their only steps there.
+fn add_of_index(
+    alloc: Global,
+    body: &MethodBody,
+    nest: &Nest,
+    nodes: &[u32],
+    index: usize,
+    found: &mut Vec<Beginning>,
+) -> Result<(), NoMemory>
+    requires index { index < length nest.now }
+    requires nest { IsNestBy body.now.graph nodes.now nest.now }
+    ensures { OnOk result ((P : Program) (known : Known) (m : ℕ) (d : Digraph) → IsBodyOf P known m body.now
+        → IsMoved body.now.graph d (slice_index nodes.now) → IsNest d nest.now
+        → AddsBeginnings P known m body.now.graph (slice_index nodes.now (header_at nest.now index))
+        (λ k. (u : ℕ) × IsSteppedAt body.now (slice_index nodes.now (header_at nest.now index)) k u) found.old.items found.new.items) }
+{
+    let _ = body.routes.nodes();
+    let l = &nest.loops()[index];
+    if are_idle(&body.acts, nodes, l.members()) {
+        return Ok(());
+    }
+    let marks = marks_of(alloc, nest, nodes, index)?;
+    add_of_loop(alloc, body, &marks, found)
+}
+
+/// With what local variables begin in the loops of a nest in which they have their only steps.
+fn beginnings(
+    alloc: Global,
+    body: &MethodBody,
+    nest: &Nest,
+    nodes: &[u32],
+) -> Result<Vec<Beginning>, NoMemory>
+    requires { IsNestBy body.now.graph nodes.now nest.now }
+    ensures { IfOk result (λ found. (P : Program) (known : Known) (m : ℕ) (d : Digraph) → IsBodyOf P known m body.now
+        → IsMoved body.now.graph d (slice_index nodes.now) → IsNest d nest.now → AreBeginnings P known m body.now found.items) }
+{
+    let loops = nest.loops();
+    let mut found = Vec::new(alloc);
+    for index in 0..loops.len() {
+        add_of_index(alloc, body, nest, nodes, index, &mut found)?;
+    }
+    Ok(found)
+}
+
+/// The loops that count, where it is known further with what local variables begin.
+fn bounds_further(
+    alloc: Global,
+    body: MethodBody,
+    nest: &Nest,
+    nodes: &[u32],
+) -> Result<Vec<(u32, u32)>, NoMemory>
+    requires { IsNestBy body.graph nodes.now nest.now }
+    ensures { IfOk result (λ bounds. (P : Program) (known : Known) (m : ℕ) (d : Digraph) → IsBodyOf P known m body
+        → IsMoved body.graph d (slice_index nodes.now) → IsNest d nest.now → AreBoundsBy P (further P known) m body.graph bounds.items) }
+{
+    crate::laws::beginnings_are_one();
+    let begins = Beginnings::Listed(beginnings(alloc, &body, nest, nodes)?);
+    let body = MethodBody {
+        acts: body.acts,
+        routes: body.routes,
+        begins,
+    };
+    bounds_of_nest(alloc, &body, nest, nodes)
+}
+
+/// What the instructions of a method do, and its graph.
+fn plain_body(
+    alloc: Global,
+    method: &FlowMethod,
+    ints: &MethodInts<'_>,
+    graph: Graph,
+) -> Result<MethodBody, NoMemory>
+    ensures acts { IfOk result (λ b. (P : Program) (given : Given) (m : ℕ) → IsCodedOf P m method.now → AreIntsBy P m ints.now given
+        → AreActs P (rules_by P given) m b.acts) }
+    ensures graph { IfOk result (λ b. b.graph ≡ graph) }
+    ensures begins { IfOk result (λ b. b.begins ≡ Beginnings.Stored) }
+{
+    let acts = acts(alloc, method, ints)?;
+    let routes = Routes::new(alloc, graph)?;
+    Ok(MethodBody {
+        acts,
+        routes,
+        begins: Beginnings::Stored,
+    })
+}
+
 /// The loops that count of a method with a nest, by the places of their headers.
 fn bounds_by(
     alloc: Global,
     method: &FlowMethod,
-    sites: &MethodSites,
+    ints: &MethodInts<'_>,
     graph: Graph,
     nest: &Nest,
     nodes: &[u32],
 ) -> Result<Vec<(u32, u32)>, NoMemory>
     requires { IsNestBy graph nodes.now nest.now }
-    ensures { IfOk result (λ bounds. (P : Program) (constants : Constants) (m : ℕ) (d : Digraph) → IsCodedOf P m method.now → AreSitesOf P constants m sites.now
-        → AreNeverPut P constants → IsMoved graph d (slice_index nodes.now) → IsNest d nest.now → AreBoundsBy P constants m graph bounds.items) }
+    ensures { IfOk result (λ bounds. (P : Program) (given : Given) (m : ℕ) (d : Digraph) → IsCodedOf P m method.now → AreIntsBy P m ints.now given
+        → IsGraphOf P m graph → IsMoved graph d (slice_index nodes.now) → IsNest d nest.now → AreBoundsBy P (rules_by P given) m graph bounds.items) }
 {
-    let acts = acts(alloc, method, sites)?;
-    let routes = Routes::new(alloc, graph)?;
-    bounds_of_nest(alloc, &MethodBody { acts, routes }, nest, nodes)
+    code_lines::laws::lines_follow_one_another();
+    code_lines::laws::one_stands_before();
+    opcodes::laws::starts_follow_one_another();
+    method_flow::laws::rows_are_of_their_kinds();
+    let _ = method.code();
+    let body = plain_body(alloc, method, ints, graph)?;
+    match ints {
+        MethodInts::OfSites(_) => bounds_of_nest(alloc, &body, nest, nodes),
+        MethodInts::OfTable(_) => bounds_further(alloc, body, nest, nodes),
+    }
 }
 
 /// The loops of a method: where they are headed, and those that count, by the places of their headers.
@@ -111,7 +251,7 @@ struct FoundLoops {
 fn nested_loops(
     alloc: Global,
     method: &FlowMethod,
-    sites: &MethodSites,
+    ints: &MethodInts<'_>,
     graph: Graph,
     nest: &Nest,
     nodes: &[u32],
@@ -119,12 +259,11 @@ fn nested_loops(
     requires nest { IsNestBy graph nodes.now nest.now }
     requires headers { All (λ l. l.header < length nodes.now) nest.now }
     ensures headers { IfOk result (λ x. ArePlacesOf nest.now nodes.now x.headers) }
-    ensures bounds { IfOk result (λ x. (P : Program) (constants : Constants) (m : ℕ) (d : Digraph) → IsCodedOf P m method.now
-        → AreSitesOf P constants m sites.now → AreNeverPut P constants → IsGraphOf P m graph
-        → IsCompact graph d (slice_index nodes.now) → IsReducible d → IsNest d nest.now → AreMethodBounds P constants m x.bounds.items) }
+    ensures bounds { IfOk result (λ x. (P : Program) (given : Given) (m : ℕ) (d : Digraph) → IsCodedOf P m method.now → AreIntsBy P m ints.now given
+        → IsGraphOf P m graph → IsCompact graph d (slice_index nodes.now) → IsReducible d → IsNest d nest.now
+        → AreMethodBounds P (rules_by P given) m x.bounds.items) }
 {
     code_lines::laws::lines_follow_one_another();
-    code_lines::laws::one_stands_before();
     compact_walks::laws::graphs_are_moved();
     compact_walks::laws::moved_is_nest();
     bound_rules::laws::graphs_are_one();
@@ -137,7 +276,7 @@ fn nested_loops(
             bounds: Vec::new(alloc),
         });
     }
-    let bounds = bounds_by(alloc, method, sites, graph, nest, nodes)?;
+    let bounds = bounds_by(alloc, method, ints, graph, nest, nodes)?;
     Ok(FoundLoops { headers, bounds })
 }
 
@@ -145,12 +284,12 @@ fn nested_loops(
 fn loops_of_graph(
     alloc: Global,
     method: &FlowMethod,
-    sites: &MethodSites,
+    ints: &MethodInts<'_>,
     graph: Graph,
 ) -> Result<FoundLoops, NoMemory>
     ensures headers { IfOk result (λ x. (P : Program) (m : ℕ) → IsGraphOf P m graph → AreHeadersOf P m x.headers) }
-    ensures bounds { IfOk result (λ x. (P : Program) (constants : Constants) (m : ℕ) → IsGraphOf P m graph → IsCodedOf P m method.now
-        → AreSitesOf P constants m sites.now → AreNeverPut P constants → AreMethodBounds P constants m x.bounds.items) }
+    ensures bounds { IfOk result (λ x. (P : Program) (given : Given) (m : ℕ) → IsGraphOf P m graph → IsCodedOf P m method.now
+        → AreIntsBy P m ints.now given → AreMethodBounds P (rules_by P given) m x.bounds.items) }
 {
     loop_nest::laws::parts_are_reducible();
     loop_nest::laws::reduction_has_one_end();
@@ -159,7 +298,7 @@ fn loops_of_graph(
     let compact = compact(alloc, &graph)?;
     let nodes = compact.nodes.as_slice();
     match nest(alloc, &compact.graph) {
-        Ok(nest) => nested_loops(alloc, method, sites, graph, &nest, nodes),
+        Ok(nest) => nested_loops(alloc, method, ints, graph, &nest, nodes),
         Err(NestFault::Irreducible(left)) => Ok(FoundLoops {
             headers: LoopHeaders::Irreducible(numbers(alloc, nodes, &left)?),
             bounds: Vec::new(alloc),
@@ -190,11 +329,11 @@ fn no_loops(alloc: Global) -> FoundLoops
 fn loops_of_method(
     alloc: Global,
     method: &FlowMethod,
-    sites: &MethodSites,
+    ints: &MethodInts<'_>,
 ) -> Result<FoundLoops, NoMemory>
     ensures headers { IfOk result (λ x. (P : Program) (m : ℕ) → IsCodedOf P m method.now → AreHeadersOf P m x.headers) }
-    ensures bounds { IfOk result (λ x. (P : Program) (constants : Constants) (m : ℕ) → IsCodedOf P m method.now → AreSitesOf P constants m sites.now
-        → AreNeverPut P constants → AreMethodBounds P constants m x.bounds.items) }
+    ensures bounds { IfOk result (λ x. (P : Program) (given : Given) (m : ℕ) → IsCodedOf P m method.now → AreIntsBy P m ints.now given
+        → AreMethodBounds P (rules_by P given) m x.bounds.items) }
 {
     compact_walks::laws::graphs_are_moved();
     compact_walks::laws::moved_is_nest();
@@ -203,7 +342,7 @@ fn loops_of_method(
     if leads_up(&graph) {
         return Ok(no_loops(alloc));
     }
-    loops_of_graph(alloc, method, sites, graph)
+    loops_of_graph(alloc, method, ints, graph)
 }
 
 /// Adds the loops of a method.
@@ -239,7 +378,8 @@ pub fn find_all(alloc: Global, f: &FlowProgram, s: &IntSites) -> Result<ProgramL
         if number as usize >= s.method_count() {
             return Ok(ProgramLoops { headers, counted });
         }
-        let found = loops_of_method(alloc, f.method(number), s.method(number))?;
+        let ints = MethodInts::OfSites(s.method(number));
+        let found = loops_of_method(alloc, f.method(number), &ints)?;
         add_loops(number, &found.bounds, &mut counted)?;
         headers.push(found.headers)?;
     }
@@ -253,4 +393,28 @@ pub fn find(alloc: Global, f: &FlowProgram, s: &IntSites) -> Result<Vec<FoundLoo
 {
     let loops = find_all(alloc, f, s)?;
     Ok(loops.counted)
+}
+
+/// The loops of the program that count by what is known further, methods and places rising, each with the least number of times that it
+/// goes round at most: with limits and beginnings that are known by one line or by several, by whichever edge a loop is entered. The
+/// tables tell of each method, by number, which ints its lines push. An irreducible method has no such loops.
+pub fn find_further(
+    alloc: Global,
+    f: &FlowProgram,
+    tables: &[KnownTable],
+) -> Result<Vec<FoundLoop>, NoMemory>
+    ensures { IfOk result (λ found. (P : Program) (known : Known) → IsFlowOf P f.now → AreTables P known tables.now → AreCountedFurther P known found.items) }
+{
+    crate::laws::further_rules_are_right();
+    let mut counted = Vec::new(alloc);
+    for number in 0..f.method_count() {
+        if number as usize >= tables.len() {
+            return Ok(counted);
+        }
+        let table = &tables[number as usize];
+        let ints = MethodInts::OfTable(&table.ints);
+        let found = loops_of_method(alloc, f.method(number), &ints)?;
+        add_loops(number, &found.bounds, &mut counted)?;
+    }
+    Ok(counted)
 }

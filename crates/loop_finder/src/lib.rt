@@ -1,16 +1,13 @@
 //! The loops of a program that count: how often each goes round at most, found in its code and in the graphs of its methods.
 #![tactic(auto)]
 
-mod acts;
+mod beginning;
+mod body;
 mod counting;
 mod finding;
 mod headers;
-mod iterations;
 pub mod laws;
-mod reach;
-mod reading;
 mod setting;
-mod values;
 
-pub use finding::{ProgramLoops, find, find_all};
+pub use finding::{ProgramLoops, find, find_all, find_further};
 pub use headers::LoopHeaders;

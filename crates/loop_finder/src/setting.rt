@@ -1,45 +1,17 @@
 //! What a local variable was set to before a loop is entered.
 
-ghost use Rattle.std.specs.Prelude.{◌≡◌, ◌↔◌, ◌⊎◌, ℕ, ◌<◌, true, false, IsTrue, IfSome, All, Contains, MatchOption};
-ghost use Rattle.loop_finder.specs.Acts.{act_at, written};
-ghost use Rattle.loop_finder.specs.Marking.{AreMarksOf, AreSized};
-ghost use Rattle.loop_finder.specs.Reach.{flag_at};
-ghost use Rattle.loop_finder.specs.Setting.{IsOnly, IsOnlyEntry, IsOnlyOf, IsOnlySource, IsSetTo, LastWriteFrom, WritesAt, stored_by};
+ghost use Rattle.std.specs.Prelude.{◌≡◌, ◌↔◌, ◌⊎◌, ℕ, ◌*◌, ◌<◌, [], length, slice_index, true, false, IsTrue, IfOk, IfSome, OnOk, All, Contains, MatchOption};
+ghost use Rattle.loop_acts.specs.Acts.{act_at, written};
+ghost use Rattle.loop_nest.specs.Digraph.{Digraph};
+ghost use Rattle.loop_acts.specs.Writing.{AreWriters, IsAddedWriter, IsIdle, IsOnly, IsOnlyOf, WritesAt, stored_by};
+ghost use Rattle.loop_marks.specs.Marking.{AreMarksOf, AreSized};
+ghost use Rattle.loop_marks.specs.Reach.{flag_at};
+ghost use Rattle.loop_finder.specs.Setting.{AreWritesBefore, IsAddedWrite, IsFirstWrite, IsOnlyEntry, IsOnlySource, IsSetTo};
 
-use crate::acts::Act;
-use crate::iterations::{LoopMarks, Routes};
-
-/// What the instruction at a place does.
-pub fn act_at(acts: &[Act], place: u32) -> Act
-    ensures { result ≡ act_at acts.now place }
-{
-    let index = place as usize;
-    if index < acts.len() {
-        acts[index]
-    } else {
-        Act::Other
-    }
-}
-
-/// Whether an instruction that does this writes the local variable.
-fn writes(act: Act, local: u32) -> bool
-    ensures { IsTrue result ↔ Contains (written act) local }
-{
-    match act {
-        Act::Step(written, _) | Act::Set(written, _) | Act::SetReference(written) => {
-            written == local
-        }
-        Act::SetLong(first) => first == local || u64::from(first) + 1 == u64::from(local),
-        Act::Test(_) | Act::Other => false,
-    }
-}
-
-/// Whether the instruction at a place writes the local variable.
-pub fn writes_at(acts: &[Act], place: u32, local: u32) -> bool
-    ensures { IsTrue result ↔ WritesAt acts.now local place }
-{
-    writes(act_at(acts, place), local)
-}
+use base::NoMemory;
+use loop_acts::{Act, act_at, write_at, writes_at};
+use loop_marks::{LoopMarks, Routes};
+use std::alloc::Global;
 
 /// Whether each of these nodes is this one.
 fn are_all(nodes: &[u32], node: u32) -> bool
@@ -94,7 +66,7 @@ fn are_within_but(marks: &LoopMarks, nodes: &[u32], node: u32) -> bool
 }
 
 /// The one node outside a loop from which it is entered.
-fn only_entry(routes: &Routes, marks: &LoopMarks) -> Option<u32>
+pub fn only_entry(routes: &Routes, marks: &LoopMarks) -> Option<u32>
     requires { AreSized routes.now marks.now }
     ensures entry { AreMarksOf routes.now marks.now → MatchOption result ((u : ℕ) → ¬ IsOnlyEntry routes.now marks.now.header u)
         (IsOnlyEntry routes.now marks.now.header) }
@@ -109,29 +81,57 @@ fn only_entry(routes: &Routes, marks: &LoopMarks) -> Option<u32>
     }
 }
 
-/// The place of the last write of the local variable on the one way to a node.
-fn last_write(acts: &[Act], routes: &Routes, from: u32, local: u32) -> Option<u32>
-    requires { from < routes.now.nodes }
-    ensures { MatchOption result ((p : ℕ) → ¬ LastWriteFrom acts.now routes.now local from p) (LastWriteFrom acts.now routes.now local from) }
+/// Puts the place of the instruction at a node behind others, where it writes a local variable.
+fn add_write(acts: &[Act], node: u32, places: &mut Vec<u32>) -> Result<(), NoMemory>
+    ensures { OnOk result (IsAddedWrite acts.now node places.old.items places.new.items) }
 {
+    if let Some(place) = write_at(acts, node) {
+        places.push(place)?;
+    }
+    Ok(())
+}
+
+/// The places of the instructions that write local variables on the one way to a node, the last first.
+pub fn writes_before(
+    alloc: Global,
+    acts: &[Act],
+    routes: &Routes,
+    from: u32,
+) -> Result<Vec<u32>, NoMemory>
+    requires { from < routes.now.nodes }
+    ensures { IfOk result (λ places. AreWritesBefore acts.now routes.now from places.items) }
+{
+    let mut places = Vec::new(alloc);
     let mut node = from;
     // No way without a node twice has more nodes.
     for _step in 0..routes.nodes() {
-        if node % 2 == 0 && writes_at(acts, node / 2, local) {
-            return Some(node / 2);
+        add_write(acts, node, &mut places)?;
+        match only_source(routes, node) {
+            Some(source) => node = source,
+            None => return Ok(places),
         }
-        node = only_source(routes, node)?;
+    }
+    Ok(places)
+}
+
+/// The first of these places that writes the local variable.
+fn first_write(acts: &[Act], places: &[u32], local: u32) -> Option<u32>
+    ensures { MatchOption result ((i : ℕ) → i < length places.now → ¬ WritesAt acts.now local (slice_index places.now i))
+        (IsFirstWrite acts.now local places.now) }
+{
+    for place in places {
+        if writes_at(acts, *place, local) {
+            return Some(*place);
+        }
     }
     None
 }
 
-/// The constant that the local variable is set to before the loop.
-pub fn set_before(acts: &[Act], routes: &Routes, marks: &LoopMarks, local: u32) -> Option<i32>
-    requires { AreSized routes.now marks.now }
-    ensures { AreMarksOf routes.now marks.now → IsOnly (IsSetTo acts.now routes.now marks.now.header local) result }
+/// The constant that the local variable is set to before a loop, by the writes before it.
+pub fn set_before(acts: &[Act], before: &[u32], local: u32) -> Option<i32>
+    ensures { (g : Digraph) (h entry : ℕ) → IsOnlyEntry g h entry → AreWritesBefore acts.now g entry before.now → IsOnly (IsSetTo acts.now g h local) result }
 {
-    let entry = only_entry(routes, marks)?;
-    let place = last_write(acts, routes, entry, local)?;
+    let place = first_write(acts, before, local)?;
     match act_at(acts, place) {
         Act::Set(_, constant) => constant,
         _ => None,

@@ -1,7 +1,7 @@
 use Rattle.std.proofs.Common.{◌≡◌, ℕ, ◌*◌, ℤ, w32, to_z, of_z, sym, ap, ◌∙◌, subst, arith}
 use Rattle.std.proofs.lemmas.Int.{ints}
 use Rattle.method_flow.specs.Nodes.{IsAtOffset}
-use Rattle.loop_finder.specs.Reach.{flag_at}
+use Rattle.loop_marks.specs.Reach.{flag_at}
 use Rattle.loop_finder.proofs.Leaving.{ways_alike, on_stays, branch_stays, same_flags, other_false, other_true}
 use Rattle.loop_finder.proofs.counting.leaving.Goals as goal
 

@@ -1,59 +1,34 @@
-use Rattle.std.proofs.Common.{◌≡◌, ℕ, ◌*◌, ◌/◌, ◌<◌, All, Option, sym, ap, ◌∙◌, subst, arith}
+use Rattle.std.proofs.Common.{◌≡◌, ℕ, ◌<◌, List, length, get_or, All, sym, ap, ◌∙◌, subst}
 use Rattle.std.specs.Prelude.{slice_index}
-use Rattle.section_check.specs.Least.{IsLeast}
-use Rattle.loop_nest.specs.Digraph.{Digraph, IsDigraph}
-use Rattle.loop_finder.specs.Counting.{Body, Counts}
-use Rattle.loop_finder.proofs.Nests.{heads_below, members_below, nodes_below, odd_header, no_bound, one_bound}
+use Rattle.loop_nest.specs.Digraph.{IsDigraph}
+use Rattle.loop_nest.specs.Nest.{NaturalLoop}
+use Rattle.loop_acts.specs.declared.effects.Act.{Act}
+use Rattle.loop_acts.specs.Writing.{IsIdle}
+use Rattle.loop_finder.specs.Counting.{Body}
+use Rattle.loop_marks.proofs.Marked.{members_low}
+use Rattle.loop_finder.proofs.Nests.{members_below}
+use Rattle.loop_finder.proofs.Idle.{idle_loop}
 use Rattle.loop_finder.proofs.finding.bound_of_loop.Goals as goal
 
-pub marks_of-requires : goal.marks_of-requires
-marks_of-requires c =
+pub are_idle-requires : goal.are_idle-requires
+are_idle-requires c =
     let g = c.args.body.now.graph in
-    let graph : c.body.inside.routes ≡ g = ap (λ (b : Body). b.graph) c.body.view_is in
-    let wf = subst IsDigraph graph c.nodes.ensures.valid in
-    let size : g.nodes ≡ c.nodes.result = ap (λ (d : Digraph). d.nodes) (sym graph) ∙ sym c.nodes.ensures.nodes in
-    record {
-      index = c.requires.index;
-      within = members_below g c.args.nodes.now c.args.nest.now wf c.requires.nest;
-      headers = heads_below g c.args.nodes.now c.args.nest.now wf c.requires.nest;
-      nodes = subst (λ (n : ℕ). All (λ (x : ℕ). x < n) c.args.nodes.now) size (nodes_below g c.args.nodes.now c.args.nest.now wf c.requires.nest);
-    }
+    let nodes = c.args.nodes.now in
+    let ls = c.args.nest.now in
+    let l = c.index-loops-index.result in
+    let is : l ≡ get_or ls c.args.index l = c.index-loops-index.is ∙ ap (λ (xs : List NaturalLoop). get_or xs c.args.index l) c.loops.ensures in
+    let wf = subst IsDigraph (ap (λ (b : Body). b.graph) c.body.view_is) c.nodes.ensures.valid in
+    subst (λ (us : List ℕ). All (λ u. u < length nodes) us) (sym c.members.ensures) (members_low nodes ls l c.args.index c.requires.index is (members_below g nodes ls wf c.requires.nest))
 
-pub bound_of-requires : goal.bound_of-requires
-bound_of-requires c =
-    let g = c.args.body.now.graph in
-    let graph : c.body.inside.routes ≡ g = ap (λ (b : Body). b.graph) c.body.view_is in
-    let size : g.nodes ≡ c.nodes.result = ap (λ (d : Digraph). d.nodes) (sym graph) ∙ sym c.nodes.ensures.nodes in
-    c.in_ok-marks.ensures.sized g size
-
-pub returns-then-header-eq1 : goal.returns-then-header-eq1
-returns-then-header-eq1 c d moved nest =
+pub returns-then-are_idle : goal.returns-then-are_idle
+returns-then-are_idle c d moved nest =
     let b = c.args.body.now in
-    let graph : c.body.inside.routes ≡ b.graph = ap (λ (x : Body). x.graph) c.body.view_is in
-    let size : b.graph.nodes ≡ c.nodes.result = ap (λ (x : Digraph). x.nodes) (sym graph) ∙ sym c.nodes.ensures.nodes in
-    let m = c.in_ok-marks.ensures.marks b.graph d size moved nest in
-    odd_header b (slice_index c.args.nodes.now) c.args.nest.now c.args.index c.header.result (c.header.ensures ∙ m.header) c.if-header-eq1.true
-
-pub returns-in-Some : goal.returns-in-Some
-returns-in-Some c d moved nest =
-    let b = c.args.body.now in
-    let graph : c.body.inside.routes ≡ b.graph = ap (λ (x : Body). x.graph) c.body.view_is in
-    let size : b.graph.nodes ≡ c.nodes.result = ap (λ (x : Digraph). x.nodes) (sym graph) ∙ sym c.nodes.ensures.nodes in
-    let m = c.in_ok-marks.ensures.marks b.graph d size moved nest in
-    let h = c.in_ok-marks.marks.header in
-    let least = subst (λ (o : Option ℕ). IsLeast (Counts b h) o) c.in-Some.is (c.in_ok-bound.ensures m.marks) in
-    let first = c.header.ensures in
-    let second = c.header-place.ensures in
-    let odd = c.if-header-eq1.false in
-    let even : h ≡ 2 * (c.header-place.result / 2) = omega arith in
-    one_bound b (slice_index c.args.nodes.now) c.args.nest.now c.args.index h m.header (c.header-place.result / 2) c.in-Some.bound even least
-
-pub returns : goal.returns
-returns c d moved nest =
-    let b = c.args.body.now in
-    let graph : c.body.inside.routes ≡ b.graph = ap (λ (x : Body). x.graph) c.body.view_is in
-    let size : b.graph.nodes ≡ c.nodes.result = ap (λ (x : Digraph). x.nodes) (sym graph) ∙ sym c.nodes.ensures.nodes in
-    let m = c.in_ok-marks.ensures.marks b.graph d size moved nest in
-    let h = c.in_ok-marks.marks.header in
-    let none = subst (λ (o : Option ℕ). IsLeast (Counts b h) o) c.in-None.is (c.in_ok-bound.ensures m.marks) in
-    no_bound b (slice_index c.args.nodes.now) c.args.nest.now c.args.index h m.header none
+    let node = slice_index c.args.nodes.now in
+    let ls = c.args.nest.now in
+    let l = c.index-loops-index.result in
+    let is : l ≡ get_or ls c.args.index l = c.index-loops-index.is ∙ ap (λ (xs : List NaturalLoop). get_or xs c.args.index l) c.loops.ensures in
+    let acts : c.deref.result.now ≡ b.acts = c.deref.ensures.value ∙ ap (λ (x : Body). x.acts) c.body.view_is in
+    let idle =
+    subst (λ (us : List ℕ). All (λ u. IsIdle b.acts (node u)) us) c.members.ensures
+    (subst (λ (xs : List Act). All (λ u. IsIdle xs (node u)) c.members.result.now) acts (c.are_idle.ensures c.if-are_idle.true)) in
+    idle_loop b d node moved ls nest l c.args.index c.requires.index is idle

@@ -7,6 +7,7 @@ use Rattle.loop_nest.specs.Faults.{HasCause}
 use Rattle.loop_nest.specs.Reduction.{Leaves}
 use Rattle.method_flow.specs.Compact.{IsCompact}
 use Rattle.loop_finder.specs.Methods.{AreMethodBounds, IsNestBy}
+use Rattle.loop_acts.specs.Rules.{rules_by}
 use Rattle.loop_finder.proofs.HeaderLemmas.{headed_is, heads_low, leaves_nodes, left_is}
 use Rattle.loop_finder.proofs.MethodLemmas.{none_where_irreducible}
 use Rattle.loop_finder.proofs.finding.loops_of_graph.Goals as goal
@@ -44,7 +45,7 @@ returns-in-Ok-clause-bounds c =
     let d = c.in_ok-compact.compact.graph in
     let compact = subst (λ (ns : List ℕ). IsCompact g d (slice_index ns)) (sym c.as_slice-nodes.ensures) c.in_ok-compact.ensures.compact in
     IfOk-weaker c.nested_loops.result _ _
-    (λ x h P constants m is coded sites never. h P constants m d coded sites never is compact c.in-Ok.ensures.reducible c.in-Ok.ensures.nest)
+    (λ x h P given m is coded ints. h P given m d coded ints is compact c.in-Ok.ensures.reducible c.in-Ok.ensures.nest)
     c.nested_loops.ensures.bounds
 
 pub returns-in-Err-Irreducible-clause-headers : goal.returns-in-Err-Irreducible-clause-headers
@@ -65,12 +66,12 @@ returns-in-Err-Irreducible-clause-headers c P m is =
     }
 
 pub returns-in-Err-Irreducible-clause-bounds : goal.returns-in-Err-Irreducible-clause-bounds
-returns-in-Err-Irreducible-clause-bounds c P constants m is coded sites never =
+returns-in-Err-Irreducible-clause-bounds c P given m is coded ints =
     let g = c.args.graph in
     let d = c.in_ok-compact.compact.graph in
     let left = c.in-Err-Irreducible.left in
     let cause = subst (λ (e : NestFault). HasCause d e) c.in-Err-Irreducible.field-0-is c.in-Err-Irreducible.ensures.cause in
     let up : IsStrictlyIncreasing [] = λ k lt. absurd (omega arith) in
-    subst (λ (bounds : List (ℕ × ℕ)). AreMethodBounds P constants m bounds) (sym c.new.ensures.items)
-    (none_where_irreducible c.graphs_are_one.ensures.whole P constants m g is d (slice_index c.in_ok-compact.compact.nodes) c.in_ok-compact.ensures.compact c.parts_are_reducible.ensures.reducible
+    subst (λ (bounds : List (ℕ × ℕ)). AreMethodBounds P (rules_by P given) m bounds) (sym c.new.ensures.items)
+    (none_where_irreducible c.graphs_are_one.ensures.whole P (rules_by P given) m g is d (slice_index c.in_ok-compact.compact.nodes) c.in_ok-compact.ensures.compact c.parts_are_reducible.ensures.reducible
     c.reduction_has_one_end.ensures c.graphs_are_moved.ensures.graphs left.items cause.0 cause.1 up)

@@ -1,5 +1,5 @@
 use Rattle.std.proofs.Common.{◌≡◌, ℕ, ◌<◌, true, get_or}
-use Rattle.loop_finder.specs.Reach.{flag_at}
+use Rattle.loop_marks.specs.Reach.{flag_at}
 use Rattle.loop_finder.proofs.setting.first_outside.Given as goal
 
 abbrev pub invariant-loop-u : goal.invariant-loop-u

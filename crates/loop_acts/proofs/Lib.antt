@@ -1,0 +1,11 @@
+pub mod Moving
+pub mod Firsts
+pub mod Compares
+pub mod Rows
+pub mod Tests
+pub mod Ints
+pub mod ActLemmas
+pub mod Filling
+pub mod Taking
+pub mod WriterLemmas
+pub mod StoredBy

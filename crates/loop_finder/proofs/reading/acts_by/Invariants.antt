@@ -1,6 +1,0 @@
-use Rattle.std.proofs.Common.{◌≡◌, map, take}
-use Rattle.loop_finder.specs.Reading.{act_if}
-use Rattle.loop_finder.proofs.reading.acts_by.Given as goal
-
-abbrev pub invariant-loop-line : goal.invariant-loop-line
-invariant-loop-line l = l.acts.items ≡ map (act_if l.lines l.scan l.sites) (take l.line-index l.lines)

@@ -1,0 +1,8 @@
+pub mod Flagging
+pub mod Searching
+pub mod Reaching
+pub mod MarkLemmas
+pub mod Turning
+pub mod Resting
+pub mod Holding
+pub mod Marked

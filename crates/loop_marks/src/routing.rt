@@ -1,0 +1,100 @@
+//! The graph of a method, and how its nodes are found from one another.
+
+ghost use Rattle.std.specs.Prelude.{◌≡◌, ℕ, ◌<◌, false, length, set, All, IfOk};
+ghost use Rattle.loop_nest.specs.Digraph.{IsDigraph, sources_of};
+ghost use Rattle.bytecode_model.specs.Program.{Program};
+ghost use Rattle.method_flow.specs.Graphs.{IsGraphOf};
+ghost use Rattle.method_flow.specs.Nodes.{IsEdge, IsReached, Node, number_of};
+ghost use Rattle.further_rules.specs.Last.{AreLastWrites, AreOthers};
+ghost use Rattle.loop_marks.specs.Reach.{AreReached};
+
+use crate::flags::NodeFlags;
+use crate::reach::reached;
+use base::NoMemory;
+use flow_graph::spans;
+use further_rules::{LastWrites, last_writes};
+use loop_nest::Graph;
+use loop_nest::digraph::Sources;
+use std::alloc::Global;
+use std::marker::Model;
+
+/// A graph, with where among its edges those from each node stand, and the sources of the edges to it.
+#[derive(Drop)]
+pub struct Routes {
+    graph: Graph,
+    spans: Vec<(usize, usize)>,
+    sources: Sources,
+}
+
+impl Model for Routes {
+    ghost use Rattle.loop_nest.specs.Digraph.{Digraph};
+    ghost use Rattle.loop_marks.specs.Marking.{AreRoutes};
+
+    ghost Value = { Digraph };
+
+    ghost view = { λ r. r.graph };
+
+    ghost invariant = { λ r. AreRoutes r.graph r.spans.items r.sources };
+}
+
+impl Routes {
+    /// The graph with its spans and sources.
+    pub fn new(alloc: Global, graph: Graph) -> Result<Self, NoMemory>
+        ensures { IfOk result (λ r. r ≡ graph) }
+    {
+        let spans = spans(alloc, graph.nodes() as usize, graph.edges())?;
+        let sources = Sources::by_target(alloc, graph.nodes() as usize, graph.edges())?;
+        Ok(Routes {
+            graph,
+            spans,
+            sources,
+        })
+    }
+
+    /// How many nodes there are.
+    pub fn nodes(&self) -> u32
+        ensures nodes { result ≡ self.now.nodes }
+        ensures valid { IsDigraph self.now }
+    {
+        self.graph.nodes()
+    }
+
+    /// The sources of the edges to a node.
+    pub fn sources(&self, node: u32) -> &[u32]
+        requires { node < self.now.nodes }
+        ensures sources { result.now ≡ sources_of self.now.edges node }
+        ensures within { All (λ u. u < self.now.nodes) result.now }
+    {
+        self.sources.of(node)
+    }
+
+    /// What may have written a local variable last once control has come to a node and passed it. `others` has for each node whether it is
+    /// no instruction that writes the variable.
+    pub fn last_writes(
+        &self,
+        alloc: Global,
+        others: &[bool],
+        node: u32,
+    ) -> Result<LastWrites, NoMemory>
+        requires node { node < self.now.nodes }
+        requires long { length others.now ≡ self.now.nodes }
+        ensures { IfOk result (λ found. (P : Program) (m k : ℕ) (u : Node) → IsGraphOf P m self.now → AreOthers P m k self.now.nodes others.now
+            → number_of u ≡ node → IsReached (IsEdge P m) u → AreLastWrites P m k u found) }
+    {
+        last_writes(alloc, &self.graph, &self.sources, others, node)
+    }
+
+    /// The nodes that a walk from `start` through nodes that are allowed, but for `without`, leads to.
+    pub(crate) fn reached(
+        &self,
+        alloc: Global,
+        allowed: &NodeFlags,
+        without: u32,
+        start: u32,
+    ) -> Result<NodeFlags, NoMemory>
+        requires { start < self.now.nodes }
+        ensures { IfOk result (λ flags. AreReached self.now (set allowed.now.items without false) start flags.items) }
+    {
+        reached(alloc, &self.graph, &self.spans, allowed, without, start)
+    }
+}
