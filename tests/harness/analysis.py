@@ -181,15 +181,26 @@ class Reported(Listed):
 
 
 class Counted(Asked):
-    """what `loops` says: a row is `program`"""
+    """what `loops` says, and where `loops --further` says more or no longer the same: a row is `program`"""
 
     def answer(self, caller, rows):
         title, main, files = program_of(rows[0])
         linked = caller.link(main, files)
         caller.put('image', linked.out)
-        answer = caller.call(['loops', 'image'])
         yield '%s: %s' % (title, 'linked' if linked.status == 0 else told(linked))
-        yield from ('  ' + line for line in (answer.out.decode('utf-8', 'replace').splitlines() if answer.status == 0 and not answer.err else [told(answer)]))
+        plain, further = self.lines(caller, []), self.lines(caller, ['--further'])
+        yield from counted_lines(plain, further)
+
+    def lines(self, caller, options):
+        answer = caller.call(['loops', *options, 'image'])
+        return answer.out.decode('utf-8', 'replace').splitlines() if answer.status == 0 and not answer.err else [told(answer)]
+
+
+def counted_lines(plain, further):
+    """the lines of loops that count by constants, those that count further, and those that are no longer so"""
+    yield from ('  ' + line for line in plain)
+    yield from ('  further ' + line for line in further if line not in plain)
+    yield from ('  no longer ' + line for line in plain if line not in further)
 
 
 class Needed(Asked):

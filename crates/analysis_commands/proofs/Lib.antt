@@ -1,6 +1,7 @@
 pub mod Lifting
 pub mod Bounding
 mod LoopLines
+mod FurtherLines
 mod Needs
 mod Planning
 mod Slotting

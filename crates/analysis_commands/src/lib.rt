@@ -21,7 +21,7 @@ pub use bound::{NotBounded, bound_bare, bound_number, bound_program, not_bounded
 pub use certificates::asked;
 pub use check::{CheckRefusal, Held, check_bare, check_program};
 pub use executive::executive_method;
-pub use loops::loop_lines;
+pub use loops::{further_lines, loop_lines};
 pub use memory::{Given, MemoryRefusal, given_by, memory_need};
 pub use plan::{NotPlanned, plan_lines};
 pub use shapes::bound_shapes;

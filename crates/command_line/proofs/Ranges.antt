@@ -9,7 +9,7 @@ use Rattle.std.specs.Borrow.{Bor}
 use Rattle.command_line.specs.declared.table.Verb.{Verb}
 use Rattle.command_line.specs.declared.table.Verb.TheVariants.{Link, Run, Trace, Profile, Bound, Report, Plan, Cycle, Check, Loops, Headers, Need, Asm, Work}
 use Rattle.command_line.specs.declared.table.Name.{Name}
-use Rattle.command_line.specs.declared.table.Name.TheVariants.{Main, Method, All, Shapes, Cycles, Stack, Memory, Blocks, BlockWords, Read, Write, Micro, Rounds}
+use Rattle.command_line.specs.declared.table.Name.TheVariants.{Main, Method, All, Shapes, Cycles, Stack, Memory, Blocks, BlockWords, Read, Write, Micro, Rounds, Further}
 use Rattle.command_line.specs.declared.command.Command.{Command}
 use Rattle.command_line.specs.declared.command.Command.TheVariants as commands
 use Rattle.command_line.specs.Table.{name_word, usual, OptionValue, Nothing, AWord, ANumber, OneOf, value_of_name, operands_of}
@@ -77,6 +77,7 @@ none_kept n Read m h = absurd (cc)
 none_kept n Write m h = absurd (cc)
 none_kept n Micro m h = absurd (cc)
 none_kept n Rounds m h = absurd (cc)
+none_kept n Further m h = absurd (cc)
 
 -- what an option means, given or not
 meant : (o : Option ℕ) (d : ℕ) (P : ℕ → Type 0) → P d → ((m : ℕ) → o ≡ Some m → P m) → P (unwrap_or o d)

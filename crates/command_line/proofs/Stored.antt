@@ -10,7 +10,7 @@ use Rattle.std.proofs.lemmas.Slice.Eq.{bytes_eq-Decides}
 use Rattle.command_line.specs.declared.table.Verb.{Verb}
 use Rattle.command_line.specs.declared.table.Verb.TheVariants.{Link, Run, Trace, Profile, Bound, Report, Plan, Cycle, Check, Loops, Headers, Need, Asm, Work}
 use Rattle.command_line.specs.declared.table.Name.{Name}
-use Rattle.command_line.specs.declared.table.Name.TheVariants.{Main, Method, All, Shapes, Cycles, Stack, Memory, Blocks, BlockWords, Read, Write, Micro, Rounds}
+use Rattle.command_line.specs.declared.table.Name.TheVariants.{Main, Method, All, Shapes, Cycles, Stack, Memory, Blocks, BlockWords, Read, Write, Micro, Rounds, Further}
 use Rattle.command_line.specs.Table.{name_word, all_names, place_of, same_name, rivals, names_of, verb_word, all_verbs, verb_named, name_named, has_name, kept_by, name_of}
 use Rattle.command_line.specs.Command.{is_option, none_given, given, with_value, is_taken}
 use Rattle.command_line.proofs.WordLemmas.{if_true}
@@ -31,11 +31,12 @@ name_at Read = refl
 name_at Write = refl
 name_at Micro = refl
 name_at Rounds = refl
+name_at Further = refl
 
 same_place : (a b : Name) → place_of a ≡ place_of b → a ≡ b
 same_place a b e = sym (name_at a) ∙ ap (λ i. get_or all_names i Main) e ∙ name_at b
 
-place_below : (a : Name) → place_of a < 13
+place_below : (a : Name) → place_of a < 14
 place_below Main = omega arith
 place_below Method = omega arith
 place_below All = omega arith
@@ -49,6 +50,7 @@ place_below Read = omega arith
 place_below Write = omega arith
 place_below Micro = omega arith
 place_below Rounds = omega arith
+place_below Further = omega arith
 
 eq_true : (x y : ℕ) → (x == y) ≡ true → x ≡ y
 eq_true x y e = grind arith
@@ -56,7 +58,7 @@ eq_true x y e = grind arith
 -- ---- what is stored
 
 abbrev pub IsFull : List (Option ℕ) → Type 0
-IsFull values = length values ≡ 13
+IsFull values = length values ≡ 14
 
 pub full_with : (values : List (Option ℕ)) (a : Name) (n : ℕ) → IsFull values → IsFull (with_value values a n)
 full_with values a n full = length-set values (place_of a) (Some n) ∙ full
@@ -89,6 +91,7 @@ not_given Read = refl
 not_given Write = refl
 not_given Micro = refl
 not_given Rounds = refl
+not_given Further = refl
 
 own_rival : (a : Name) → Contains (rivals a) a
 own_rival Main = (0, omega arith, refl)
@@ -104,6 +107,7 @@ own_rival Read = (0, omega arith, refl)
 own_rival Write = (0, omega arith, refl)
 own_rival Micro = (0, omega arith, refl)
 own_rival Rounds = (0, omega arith, refl)
+own_rival Further = (0, omega arith, refl)
 
 -- an option that nothing excludes
 alone : (a b : Name) → Contains (a ∷ []) b → Contains (rivals a) a → Contains (rivals b) a
@@ -137,6 +141,7 @@ rival_back Read b h = alone Read b h (own_rival Read)
 rival_back Write b h = alone Write b h (own_rival Write)
 rival_back Micro b h = alone Micro b h (own_rival Micro)
 rival_back Rounds b h = alone Rounds b h (own_rival Rounds)
+rival_back Further b h = alone Further b h (own_rival Further)
 
 not_taken : (values : List (Option ℕ)) (name other : Name) → is_taken values name ≡ false → Contains (rivals name) other → is_some (given values other) ≡ false
 not_taken values name other h is = elim (cases_Bool (is_some (given values other))) [
@@ -220,6 +225,7 @@ name_of_word Read = refl
 name_of_word Write = refl
 name_of_word Micro = refl
 name_of_word Rounds = refl
+name_of_word Further = refl
 
 pub option_of_word : (name : Name) → is_option (name_word name) ≡ true
 option_of_word Main = refl
@@ -235,6 +241,7 @@ option_of_word Read = refl
 option_of_word Write = refl
 option_of_word Micro = refl
 option_of_word Rounds = refl
+option_of_word Further = refl
 
 pub named_by_word : (verb : Verb) (name : Name) → Contains (names_of verb) name → name_of verb (name_word name) ≡ Some name
 named_by_word verb name is = ap (kept_by verb) (name_of_word name) ∙ sym (if_true (has_name verb name) (Some name) None (in_has verb name is))

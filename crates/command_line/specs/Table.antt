@@ -6,6 +6,7 @@ use Rattle.command_line.specs.declared.table.Verb.{Verb}
 use Rattle.command_line.specs.declared.table.Verb.TheVariants.{Link, Run, Trace, Profile, Bound, Report, Plan, Cycle, Check, Loops, Headers, Need, Asm, Work}
 use Rattle.command_line.specs.declared.table.Name.{Name}
 use Rattle.command_line.specs.declared.table.Name.TheVariants.{Main, Method, All, Shapes, Cycles, Stack, Memory, Blocks, BlockWords, Read, Write, Micro, Rounds}
+use Rattle.command_line.specs.declared.table.Name.TheVariants.{Further}
 
 -- ---- options
 
@@ -23,9 +24,10 @@ name_word Read = codes "--read"
 name_word Write = codes "--write"
 name_word Micro = codes "--micro"
 name_word Rounds = codes "--rounds"
+name_word Further = codes "--further"
 
 abbrev pub all_names : List Name
-all_names = Main ∷ Method ∷ All ∷ Shapes ∷ Cycles ∷ Stack ∷ Memory ∷ Blocks ∷ BlockWords ∷ Read ∷ Write ∷ Micro ∷ Rounds ∷ []
+all_names = Main ∷ Method ∷ All ∷ Shapes ∷ Cycles ∷ Stack ∷ Memory ∷ Blocks ∷ BlockWords ∷ Read ∷ Write ∷ Micro ∷ Rounds ∷ Further ∷ []
 
 -- the place of an option among all
 abbrev pub place_of : Name → ℕ
@@ -42,6 +44,7 @@ place_of Read = 9
 place_of Write = 10
 place_of Micro = 11
 place_of Rounds = 12
+place_of Further = 13
 
 abbrev pub same_name : Name → Name → Bool
 same_name a b = place_of a == place_of b
@@ -76,6 +79,7 @@ value_of_name Read = ANumber 0 63
 value_of_name Write = ANumber 0 63
 value_of_name Micro = Nothing
 value_of_name Rounds = ANumber 1 32767
+value_of_name Further = Nothing
 
 -- what is meant where an option isn't given
 abbrev pub usual : Name → ℕ
@@ -126,7 +130,7 @@ names_of Report = Method ∷ bound_names
 names_of Plan = Rounds ∷ bound_names
 names_of Cycle = Rounds ∷ run_names
 names_of Check = bound_names
-names_of Loops = []
+names_of Loops = Further ∷ []
 names_of Headers = []
 names_of Need = []
 names_of Asm = []

@@ -89,8 +89,9 @@ pub enum Command {
         bounds: u32,
         certificate: u32,
     },
-    /// The image's loops that count.
+    /// The image's loops that count, by constants alone or by what is known further.
     Loops {
+        further: bool,
         image: u32,
     },
     /// The bounds of the image's loops as a text, by lines of sources where the second operand gives them; there are one or two

@@ -24,6 +24,7 @@ pub(crate) struct Given {
     pub(crate) write: Option<u32>,
     pub(crate) micro: Option<u32>,
     pub(crate) rounds: Option<u32>,
+    pub(crate) further: Option<u32>,
 }
 
 /// Where none is given.
@@ -41,6 +42,7 @@ pub(crate) const NONE_GIVEN: Given = Given {
     write: None,
     micro: None,
     rounds: None,
+    further: None,
 };
 
 /// The number from one to another that a word gives.
@@ -88,7 +90,7 @@ pub(crate) fn meaning(name: Name, k: u32, word: &str) -> Option<u64>
         Name::BlockWords => number_from(1, 1024, word),
         Name::Read | Name::Write => number_from(0, 63, word),
         Name::Rounds => number_from(1, 32_767, word),
-        Name::Micro | Name::All | Name::Shapes => None,
+        Name::Micro | Name::All | Name::Shapes | Name::Further => None,
     }
 }
 
@@ -111,6 +113,7 @@ impl Given {
             Name::Write => self.write.is_some(),
             Name::Micro => self.micro.is_some(),
             Name::Rounds => self.rounds.is_some(),
+            Name::Further => self.further.is_some(),
         }
     }
 
@@ -144,6 +147,7 @@ impl Given {
             Name::Write => made.write = Some(n as u32),
             Name::Micro => made.micro = Some(n as u32),
             Name::Rounds => made.rounds = Some(n as u32),
+            Name::Further => made.further = Some(n as u32),
         }
         made
     }

@@ -39,6 +39,7 @@ pub(crate) enum Name {
     Write,
     Micro,
     Rounds,
+    Further,
 }
 
 /// The command that a word names.
@@ -108,6 +109,8 @@ fn name_named(word: &str) -> Option<Name>
         Some(Name::Micro)
     } else if word == "--rounds" {
         Some(Name::Rounds)
+    } else if word == "--further" {
+        Some(Name::Further)
     } else {
         None
     }
@@ -126,7 +129,8 @@ fn has_name(verb: Verb, name: Name) -> bool
         Verb::Plan => matches!(name, Name::Rounds) || is_of_bound(name),
         Verb::Cycle => matches!(name, Name::Rounds) || is_of_run(name),
         Verb::Check => is_of_bound(name),
-        Verb::Loops | Verb::Headers | Verb::Need | Verb::Asm | Verb::Work => false,
+        Verb::Loops => matches!(name, Name::Further),
+        Verb::Headers | Verb::Need | Verb::Asm | Verb::Work => false,
     }
 }
 
@@ -151,7 +155,7 @@ fn is_of_bound(name: Name) -> bool
 pub(crate) fn is_flag(name: Name) -> bool
     ensures { result ≡ is_flag (value_of_name name) }
 {
-    matches!(name, Name::Micro | Name::All | Name::Shapes)
+    matches!(name, Name::Micro | Name::All | Name::Shapes | Name::Further)
 }
 
 /// The option of a command that a word names.

@@ -271,7 +271,7 @@ fn made(verb: Verb, given: &Given, k: u32, count: u32) -> Command
         Verb::Plan => plan(given, k),
         Verb::Cycle => cycle(given, k),
         Verb::Check => check(given, k),
-        Verb::Loops => Command::Loops { image: k },
+        Verb::Loops => loops(given, k),
         Verb::Headers => Command::Headers {
             image: k,
             operands: count,
@@ -351,6 +351,16 @@ fn cycle(given: &Given, k: u32) -> Command
         rounds: given.rounds.unwrap_or(0),
         table: k,
         first: k + 1,
+    }
+}
+
+/// The loops that count of the image that is word `k`.
+fn loops(given: &Given, k: u32) -> Command
+    ensures { result ≡ made Verb.Loops (values_of given.now) k 0 }
+{
+    Command::Loops {
+        further: given.further.is_some(),
+        image: k,
     }
 }
 

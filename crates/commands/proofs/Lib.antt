@@ -16,3 +16,4 @@ pub mod Behind
 pub mod Shown
 pub mod Worked
 pub mod Said
+pub mod LoopAnswers

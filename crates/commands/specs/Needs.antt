@@ -1,5 +1,5 @@
 -- What `loops` and `memory` find of an image, without settings of a machine.
-use Rattle.std.specs.Prelude.{◌≡◌, ℕ, ◌+◌, List, [], length}
+use Rattle.std.specs.Prelude.{◌≡◌, ℕ, ◌+◌, Bool, true, false, List, [], length}
 use Rattle.std.specs.Prelude.{Ok, Err, Vec}
 use Rattle.std.specs.declared.alloc.Global.{Global}
 use Rattle.std.specs.declared.result.Result.{Result}
@@ -13,7 +13,7 @@ use Rattle.answer_lines.specs.MemoryLines.{memory_line}
 use Rattle.analysis_commands.specs.declared.memory.Given.{Given}
 use Rattle.analysis_commands.specs.declared.memory.MemoryRefusal.{MemoryRefusal}
 use Rattle.analysis_commands.specs.declared.memory.MemoryRefusal.TheVariants as refusals
-use Rattle.analysis_commands.specs.Loops.{AreLoopLines}
+use Rattle.analysis_commands.specs.Loops.{AreLoopLines, AreFurtherLines}
 use Rattle.analysis_commands.specs.Memory.{IsNeed, IsMemoryRefusal, IsGivenBy, IsBadText}
 use Rattle.commands.specs.declared.outcome.Refusal.TheVariants.{BadBounds, TwiceBound, BadSizes, TwiceSize}
 use Rattle.commands.specs.declared.outcome.Answer.{Answer}
@@ -23,10 +23,11 @@ use Rattle.commands.specs.declared.outcome.Ending.TheVariants.{Refused, NotAnswe
 
 -- ---- `loops`
 
--- the lines of the loops that count, or there was no memory
-abbrev pub AnswersLoops : List ClassFile → Answer → Type 0
-AnswersLoops cs (Text text) = AreLoopLines cs text.items
-AnswersLoops cs (Ends ending) = ending ≡ NoMemory
+-- the lines of the loops that count, with what is known further or by constants alone, or there was no memory
+abbrev pub AnswersLoops : (further : Bool) → List ClassFile → Answer → Type 0
+AnswersLoops true cs (Text text) = AreFurtherLines cs text.items
+AnswersLoops false cs (Text text) = AreLoopLines cs text.items
+AnswersLoops further cs (Ends ending) = ending ≡ NoMemory
 
 -- no line at all, of an image without classes
 abbrev pub AnswersNothing : Answer → Type 0

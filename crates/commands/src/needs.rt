@@ -5,7 +5,7 @@ ghost use Rattle.commands.specs.Needs.{memory_ending, bare_need, IsLineAnswer, A
 
 use crate::linked_settings::words_of;
 use crate::outcome::{Answer, Ending, Refusal};
-use analysis_commands::{MemoryRefusal, given_by, loop_lines, memory_need};
+use analysis_commands::{MemoryRefusal, further_lines, given_by, loop_lines, memory_need};
 use answer_lines::{Cause, memory_line};
 use base::NoMemory;
 use jop_core::Bare;
@@ -13,13 +13,14 @@ use jopizer::Linked;
 use memory_rules::Need;
 use std::alloc::Global;
 
-/// The lines of the loops that count of what was linked.
-pub fn loops_linked(alloc: Global, linked: &Linked) -> Answer
-    ensures { AnswersLoops linked.now.classes result }
+/// The lines of the loops that count of what was linked, with what is known further or by constants alone.
+pub fn loops_linked(alloc: Global, linked: &Linked, further: bool) -> Answer
+    ensures { AnswersLoops further linked.now.classes result }
 {
-    match loop_lines(alloc, linked.program()) {
-        Ok(text) => Answer::Text(text),
-        Err(_) => Answer::Ends(Ending::NoMemory),
+    if further {
+        line_answer(further_lines(alloc, linked.program()))
+    } else {
+        line_answer(loop_lines(alloc, linked.program()))
     }
 }
 

@@ -3,3 +3,4 @@ mod Staying
 mod Holding
 mod Starting
 mod Beginning
+mod FurtherBeginning

@@ -3,3 +3,4 @@ pub mod Laws
 pub mod Runs
 pub mod Found
 pub mod Further
+pub mod FurtherRuns

@@ -3,6 +3,7 @@
 ghost use Rattle.counted_activations.specs.Laws.{CountedActivationsKeep, CountedLoopsNeedNoPremise, LiveGraphsKeep};
 ghost use Rattle.counted_activations.specs.Found.{FoundLoopsCount};
 ghost use Rattle.counted_activations.specs.Further.{FurtherActivationsKeep, FurtherLoopsNeedNoPremise};
+ghost use Rattle.counted_activations.specs.FurtherRuns.{FurtherFoundLoopsCount, FurtherLoopsOfRuns};
 ghost use Rattle.counted_activations.specs.Runs.{BootHoldsConstants, CountedLoopsOfRuns, RunsHoldConstants};
 
 /// A walk that keeps a bound in a method's graph keeps it in the live graph.
@@ -86,4 +87,22 @@ pub fn further_loops_need_no_premise()
     ensures { FurtherLoopsNeedNoPremise }
 {
     further_activations_keep();
+}
+
+/// So where an activation begins in a run from the boot state, and arrays are known that fields hold, a bound of its method asks for the
+/// other loops alone.
+pub fn further_loops_of_runs()
+    ensures { FurtherLoopsOfRuns }
+{
+    further_loops_need_no_premise();
+    further_rules::laws::puts_keep_arrays();
+    counted_laws::laws::boot_holds_known();
+    boot_holds_constants();
+}
+
+/// The loops that are found further in a program count to their numbers.
+pub fn further_found_loops_count()
+    ensures { FurtherFoundLoopsCount }
+{
+    loop_finder::laws::reducible_cycles_are_loops();
 }

@@ -31,7 +31,7 @@ usage:
                                              runs a cyclic executive, and says how its slots kept their lengths
   jop check [OPTION VALUE].. IMAGE BOUNDS CERTIFICATE
                                              says whether a certificate shows what a method takes at most
-  jop loops IMAGE                            puts the bounds of the loops that count
+  jop loops [--further] IMAGE                puts the bounds of the loops that count
   jop headers IMAGE [LINES]                  puts a text of bounds with the source line of each loop
   jop memory IMAGE BOUNDS SIZES              says how many words a run needs at most
   jop work N                                 makes a program of N methods, links, runs and bounds it
@@ -278,11 +278,14 @@ example:
 ";
 
 const LOOPS: &str = "\
-jop loops IMAGE
+jop loops [--further] IMAGE
 
 Puts a line `NAME PC loop<=N` on standard output for each loop of the image that counts: one that is left by a test of
-an int local variable which one instruction steps. No run goes round it more often, so the lines may stand in a text
-of bounds.
+an int local variable which one instruction steps, where its limit and what it begins with are constants. No run goes
+round it more often, so the lines may stand in a text of bounds.
+
+  --further      takes other ints that are known, too: a local variable's into which one int is stored, the length of
+                 an array that the method makes or that a field always holds, and what is computed of such
 
 answers:
   none, and the lines                      status 0

@@ -60,7 +60,7 @@ module _ (s : Settings) (image : BareContent) (more : s.blocks < blocks_of_code 
   asked_long (questions.Report other method) operands (Ends ending) is answers =
       let moved = subst (λ (x : Settings). BoundsBare x image (text_of_word operands 1) ending) (some_same other s is) answers in
       too_long ending moved (λ m. let fits = m.fits in omega (arith, fits, more))
-  asked_long questions.Loops operands answer is answers = absurd (none≢some s is)
+  asked_long (questions.Loops further) operands answer is answers = absurd (none≢some s is)
   asked_long questions.Headers operands answer is answers = absurd (none≢some s is)
   asked_long questions.Memory operands answer is answers = absurd (none≢some s is)
 

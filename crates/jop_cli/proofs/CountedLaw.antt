@@ -3,19 +3,21 @@ use Rattle.std.proofs.Common.{◌≡◌, ℕ, zero, suc, List, [], ◌∷◌, �
 use Rattle.bytecode_model.specs.State.{State}
 use Rattle.bytecode_model.specs.WellFormed.{IsInput}
 use Rattle.method_runs.specs.Laws.{GivesBytes}
-use Rattle.activations.specs.Setting.{Setting, Stands, limits}
+use Rattle.activations.specs.Setting.{Setting, IsSetting, Stands, limits}
 use Rattle.activations.specs.Activations.{Stage}
+use Rattle.activations.specs.Timing.{HasTiming}
 use Rattle.activations.specs.Steps.{PlacesTellWords, StepsAreTold}
 use Rattle.boundary.specs.Runs.{Goes, input_of}
 use Rattle.boundary.proofs.Obeys.{Sort, Plain, Takes, Puts, Obeys, step_sort}
 use Rattle.boundary.proofs.Answered.{reached}
 use Rattle.counted_activations.specs.Runs.{IsOfBootRun, CountedLoopsOfRuns}
+use Rattle.counted_activations.specs.FurtherRuns.{FurtherLoopsOfRuns}
 use Rattle.jop_core.specs.Reset.{linked_reset}
 use Rattle.analysis_commands.specs.Analysis.{timing_of}
 use Rattle.commands.specs.Show.{linked_shown}
 use Rattle.commands.specs.LinkedRun.{linked_setting}
 use Rattle.jop_cli.specs.Answer.{lent_of}
-use Rattle.jop_cli.specs.Correct.{CountedLoopsAreKept}
+use Rattle.jop_cli.specs.Correct.{BoundInRun, CountedLoopsAreKept, FurtherLoopsAreKept}
 use Rattle.jop_cli.proofs.Coming.{boot_is_fresh}
 use Rattle.jop_cli.proofs.HoldingLaw.{setting_of, timing_along, reset_timing}
 
@@ -51,28 +53,44 @@ gives_bytes g limit first fresh (suc n) a (mid, goes, going, below, follows) =
     (λ more. subst G (sym more) (given_more mid.state.answers follows.answer before follows.byte))
     (grown sort.sort follows.answer mid.state a.state (sort.obeys follows.answer a.state follows.is_next))
 
+-- ---- an activation in the run of a call
+
+module _ (places : PlacesTellWords) (steps : StepsAreTold) (x : BoundInRun) where
+  abbrev setting : Setting
+  setting = linked_setting x.linked.classes x.settings.stack x.ran.config.memory
+
+  abbrev first : Stage
+  first = record { machine = linked_reset x.settings.stack x.linked.laid.words x.ran.config; state = x.begins.boot }
+
+  is_setting : IsSetting setting
+  is_setting = setting_of (linked_shown x.linked.classes x.show) x.call x.linked.classes setting first.machine x.settings.cycles (lent_of x.call.old) (lent_of x.call.new) x.ran.ran
+
+  has_timing : HasTiming (timing_of x.settings) x.first.machine
+  has_timing =
+      timing_along places steps setting is_setting (timing_of x.settings) x.settings.cycles first
+      (reset_timing x.settings x.ran.config x.settings.stack x.linked.laid.words x.ran.has) x.begins.steps x.first x.begins.goes
+
+  of_run : IsOfBootRun x.linked.classes setting x.first.state
+  of_run =
+      let at = x.begins in
+      let stands = first_stands setting x.settings.cycles first at.steps x.first at.goes x.ended.begins.stands in
+      let fresh = boot_is_fresh setting.program at.boot at.is_boot in
+      record {
+        boot = at.boot;
+        begins = at.is_boot;
+        fits = stands.fits;
+        input = input_of x.first.state.answers;
+        gives = gives_bytes setting x.settings.cycles first fresh.answers at.steps x.first at.goes;
+        steps = at.steps;
+        is = reached setting x.settings.cycles first at.steps x.first at.goes (input_of x.first.state.answers) (λ k within. refl);
+      }
+
 pub counted_loops_are_kept : PlacesTellWords → StepsAreTold → CountedLoopsOfRuns → CountedLoopsAreKept
 counted_loops_are_kept places steps runs x constants resolved are others =
-    let c = x.call in
-    let settings = x.settings in
-    let l = x.linked in
-    let r = x.ran in
-    let at = x.begins in
-    let a = x.first in
-    let g = linked_setting l.classes settings.stack r.config.memory in
-    let reset = linked_reset settings.stack l.laid.words r.config in
-    let is = setting_of (linked_shown l.classes x.show) c l.classes g reset settings.cycles (lent_of c.old) (lent_of c.new) r.ran in
-    let first : Stage = record { machine = reset; state = at.boot } in
-    let timing = timing_along places steps g is (timing_of settings) settings.cycles first (reset_timing settings r.config settings.stack l.laid.words r.has) at.steps a at.goes in
-    let stands = first_stands g settings.cycles first at.steps a at.goes x.ended.begins.stands in
-    let fresh = boot_is_fresh g.program at.boot at.is_boot in
-    let of_run : IsOfBootRun l.classes g a.state = record {
-      boot = at.boot;
-      begins = at.is_boot;
-      fits = stands.fits;
-      input = input_of a.state.answers;
-      gives = gives_bytes g settings.cycles first fresh.answers at.steps a at.goes;
-      steps = at.steps;
-      is = reached g settings.cycles first at.steps a at.goes (input_of a.state.answers) (λ k within. refl);
-    } in
-    runs l.classes (timing_of settings) constants x.bound_of x.method x.bound resolved are x.holds g a x.last is refl timing of_run x.ended others
+    runs x.linked.classes (timing_of x.settings) constants x.bound_of x.method x.bound resolved are x.holds (setting places steps x) x.first x.last
+    (is_setting places steps x) refl (has_timing places steps x) (of_run places steps x) x.ended others
+
+pub further_loops_are_kept : PlacesTellWords → StepsAreTold → FurtherLoopsOfRuns → FurtherLoopsAreKept
+further_loops_are_kept places steps runs x constants known resolved are is_known others =
+    runs x.linked.classes (timing_of x.settings) constants known x.bound_of x.method x.bound resolved are is_known x.holds (setting places steps x) x.first x.last
+    (is_setting places steps x) refl (has_timing places steps x) (of_run places steps x) x.ended others

@@ -184,7 +184,7 @@ module _ (l : Parts) (s : Settings) (method blocks : ℕ) (long : IsTooLong s l 
   asked_long words (questions.Report other m) operands (Ends ending) is answers =
       let moved = subst (λ (x : Settings). EndsNotBounded l.classes x (text_of_word operands 1) (text_of_word words m) ending) (some_same other s is) answers in
       cause_long (text_of_word operands 1) (text_of_word words m) ending moved.cause moved.is moved.says
-  asked_long words questions.Loops operands answer is answers = absurd (none≢some s is)
+  asked_long words (questions.Loops further) operands answer is answers = absurd (none≢some s is)
   asked_long words questions.Headers operands answer is answers = absurd (none≢some s is)
   asked_long words questions.Memory operands answer is answers = absurd (none≢some s is)
 

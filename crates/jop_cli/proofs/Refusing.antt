@@ -1,5 +1,5 @@
 -- Endings that refuse: they neither answer, nor say that the input or out failed.
-use Rattle.std.proofs.Common.{◌≡◌, ℕ, List, sym, subst, ⊎_elim}
+use Rattle.std.proofs.Common.{◌≡◌, ℕ, true, false, List, sym, subst, ⊎_elim}
 use Rattle.class_pool.specs.declared.class.ClassFile.{ClassFile}
 use Rattle.image_file.specs.Bare.{BareContent}
 use Rattle.outside.specs.Files.{FilesTold}
@@ -139,7 +139,8 @@ linked_says words (questions.Bound s method) l operands e ends = refuses (refusi
 linked_says words (questions.Bounds s) l operands e ends = refuses (refusing_by e (fault_ending s ends.fault) ends.says (fault_refuses s ends.fault))
 linked_says words (questions.Shapes s method) l operands e ends = refuses (refusing_by e (cause_ending s ends.cause) ends.says (cause_refuses s ends.cause))
 linked_says words (questions.Report s method) l operands e ends = refuses (refusing_by e (cause_ending s ends.cause) ends.says (cause_refuses s ends.cause))
-linked_says words questions.Loops l operands e is = refuses (refusing_by e endings.NoMemory is tt)
+linked_says words (questions.Loops true) l operands e is = refuses (refusing_by e endings.NoMemory is tt)
+linked_says words (questions.Loops false) l operands e is = refuses (refusing_by e endings.NoMemory is tt)
 linked_says words questions.Headers l operands e ends = refuses (refusing_by e (header_ending ends.fault) ends.says (header_refuses ends.fault))
 linked_says words questions.Memory l operands e ends = refuses (refusing_by e (memory_ending ends.refusal) ends.says (need_refuses ends.refusal))
 
@@ -152,6 +153,6 @@ bare_refuses (questions.Bound s method) image operands e ends = ⊎_elim (too_lo
 bare_refuses (questions.Bounds s) image operands e ends = ⊎_elim (too_long_refuses s image e) (λ r. refusing_by e (fault_ending s r.fault) r.says (fault_refuses s r.fault)) ends
 bare_refuses (questions.Shapes s method) image operands e ends = refusing_by e (cause_ending s ends.cause) ends.says (cause_refuses s ends.cause)
 bare_refuses (questions.Report s method) image operands e ends = ⊎_elim (too_long_refuses s image e) (λ r. refusing_by e (cause_ending s r.cause) r.says (cause_refuses s r.cause)) ends
-bare_refuses questions.Loops image operands e ends = absurd ends
+bare_refuses (questions.Loops further) image operands e ends = absurd ends
 bare_refuses questions.Headers image operands e ends = refusing_by e (header_ending ends.fault) ends.says (header_refuses ends.fault)
 bare_refuses questions.Memory image operands e ends = refusing_by e (memory_ending ends.refusal) ends.says (need_refuses ends.refusal)

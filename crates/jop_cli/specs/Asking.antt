@@ -44,7 +44,7 @@ HasRightSettings (Bound s method) = AreSettings s
 HasRightSettings (Bounds s) = AreSettings s
 HasRightSettings (Shapes s method) = AreSettings s
 HasRightSettings (Report s method) = AreSettings s
-HasRightSettings Loops = Unit {0}
+HasRightSettings (Loops further) = Unit {0}
 HasRightSettings Headers = Unit {0}
 HasRightSettings Memory = Unit {0}
 
@@ -55,7 +55,7 @@ IsAnswer words (Bound s method) l operands answer = AnswersBound l.classes s (te
 IsAnswer words (Bounds s) l operands answer = AnswersBounds l.classes s (text_of_word operands 1) answer
 IsAnswer words (Shapes s method) l operands answer = AnswersShapes l.classes s (text_of_word operands 1) (text_of_word words method) answer
 IsAnswer words (Report s method) l operands answer = AnswersReport l.classes s (text_of_word operands 1) (text_of_word words method) answer
-IsAnswer words Loops l operands answer = AnswersLoops l.classes answer
+IsAnswer words (Loops further) l operands answer = AnswersLoops further l.classes answer
 IsAnswer words Headers l operands answer = AnswersHeaders l.classes (text_of_word operands 1) answer
 IsAnswer words Memory l operands answer = AnswersNeed l (text_of_word operands 1) (text_of_word operands 2) answer
 
@@ -66,7 +66,7 @@ IsBareAnswer (Bound s method) image operands answer = EndsBy (BoundsBare s image
 IsBareAnswer (Bounds s) image operands answer = AnswersBareBounds s image (text_of_word operands 1) answer
 IsBareAnswer (Shapes s method) image operands answer = EndsBy (EndsNoMethod s (text_of_word operands 1)) answer
 IsBareAnswer (Report s method) image operands answer = EndsBy (BoundsBare s image (text_of_word operands 1)) answer
-IsBareAnswer Loops image operands answer = AnswersNothing answer
+IsBareAnswer (Loops further) image operands answer = AnswersNothing answer
 IsBareAnswer Headers image operands answer = AnswersBareHeaders (text_of_word operands 1) answer
 IsBareAnswer Memory image operands answer = AnswersBareNeed image (text_of_word operands 1) (text_of_word operands 2) answer
 

@@ -7,7 +7,7 @@
 --   (the same of a bare image and of a microprogram), command_line Command (what words say), and of this crate Tasks (what commands do), World,
 --   Linking, LinkedSettings, Calls and Courses.
 use Rattle.std.specs.Prelude.{◌≡◌, ◌↔◌, ℕ, suc, ◌+◌, ◌≤◌, ◌⊎◌, ℤ, Bool, true, List, [], ◌∷◌, ◌++◌, length, Contains, Option, Some, IsSome, Ok, MatchOption}
-use Rattle.std.specs.Prelude.{Vec, slice_get}
+use Rattle.std.specs.Prelude.{false, Vec, slice_get}
 use Rattle.std.specs.declared.alloc.Global.{Global}
 use Rattle.std.specs.List.{concat}
 use Rattle.image_file.specs.Bare.{BareContent, IsBareFile}
@@ -66,8 +66,10 @@ use Rattle.program_tables.specs.Resolving.{IsResolved}
 use Rattle.loop_rules.specs.declared.found.FoundLoop.{FoundLoop}
 use Rattle.loop_rules.specs.Sites.{int_at}
 use Rattle.int_sites.specs.Constants.{AreConstants}
-use Rattle.counted_activations.specs.Others.{CountsIn, KeepsOthers}
-use Rattle.analysis_commands.specs.Loops.{AreLoopLines}
+use Rattle.further_rules.specs.Known.{Known}
+use Rattle.further_rules.specs.Arrays.{IsKnownBy}
+use Rattle.counted_activations.specs.Others.{CountsIn, CountsFurtherIn, KeepsOthers, KeepsFurtherOthers}
+use Rattle.analysis_commands.specs.Loops.{AreLoopLines, AreFurtherLines}
 use Rattle.source_headers.specs.Files.{IsHeaderFile}
 use Rattle.source_headers.specs.Laws.{line_bound, place_bound, HasLoopNumbers}
 use Rattle.source_headers.specs.Whole.{BoundsWritten}
@@ -597,6 +599,21 @@ pub record LoopsCount (c : Call) (bytes : List ℕ) : Type 0 where
   pub put : Grew c.old.out c.new.out text
   pub counts : (x : FoundLoop) → Contains lines.found x → CountsIn (resolved linked.classes) (int_at lines.constants) x.method x.place x.bound
 
+-- so with what is known further
+pub record FurtherLoopsCount (c : Call) (bytes : List ℕ) : Type 0 where
+  pub linked : Parts
+  pub is_linked : IsLinked linked
+  pub is_file : file.IsLinkedFile bytes (image_of linked)
+  pub are_resolved : IsResolved linked.classes
+  pub text : List ℕ
+  pub lines : AreFurtherLines linked.classes text
+  pub put : Grew c.old.out c.new.out text
+  pub counts : (x : FoundLoop) → Contains lines.found x → CountsFurtherIn (resolved linked.classes) lines.known x.method x.place x.bound
+
+abbrev pub LinesCount : Call → (further : Bool) → (bytes : List ℕ) → Type 0
+LinesCount c true bytes = FurtherLoopsCount c bytes
+LinesCount c false bytes = LoopsCount c bytes
+
 -- no line was put of a bare image, which has no classes
 pub record HasNoLoop (c : Call) (bytes : List ℕ) : Type 0 where
   pub image : BareContent
@@ -604,13 +621,14 @@ pub record HasNoLoop (c : Call) (bytes : List ℕ) : Type 0 where
   pub put : Grew c.old.out c.new.out []
 
 -- What a call shows that answers that the lines of loops are written.
-pub record ShowsLoops (c : Call) (image : ℕ) : Type 0 where
+pub record ShowsLoops (c : Call) (further : Bool) (image : ℕ) : Type 0 where
   pub files : List (List ℕ)
   pub are : AreFiles c.old.files image (image + 1) files
-  pub shows : LoopsCount c (text_of_word files 0) ⊎ HasNoLoop c (text_of_word files 0)
+  pub shows : LinesCount c further (text_of_word files 0) ⊎ HasNoLoop c (text_of_word files 0)
 
 abbrev pub WrittenLoopsCount : Type 0
-WrittenLoopsCount = (c : Call) (image : ℕ) → command_of c.words ≡ Ok (Loops image) → c.outcome ≡ Written → ShowsLoops c image
+WrittenLoopsCount =
+    (c : Call) (further : Bool) (image : ℕ) → command_of c.words ≡ Ok (Loops further image) → c.outcome ≡ Written → ShowsLoops c further image
 
 -- In the runs of what is linked a bound of a method asks for the other loops alone: an ended activation keeps it that keeps the bounds of the loops that
 -- don't count to them.
@@ -618,6 +636,12 @@ abbrev pub CountedLoopsAreKept : Type 0
 CountedLoopsAreKept =
     (x : BoundInRun) (constants : List (Option ℤ)) → IsResolved x.linked.classes → AreConstants x.linked.classes constants
     → KeepsOthers (int_at constants) x.bound_of x.ended → TakesAtMost x
+
+-- So it is with what is known further: with these constants, and with the arrays of fields to which only such arrays are put.
+abbrev pub FurtherLoopsAreKept : Type 0
+FurtherLoopsAreKept =
+    (x : BoundInRun) (constants : List (Option ℤ)) (known : Known) → IsResolved x.linked.classes → AreConstants x.linked.classes constants
+    → IsKnownBy (resolved x.linked.classes) (int_at constants) known → KeepsFurtherOthers known x.bound_of x.ended → TakesAtMost x
 
 -- ---- `headers`
 

@@ -134,7 +134,7 @@ cache_asked (Bound settings method) = Some settings
 cache_asked (Bounds settings) = Some settings
 cache_asked (Shapes settings method) = None
 cache_asked (Report settings method) = Some settings
-cache_asked Loops = None
+cache_asked (Loops further) = None
 cache_asked Headers = None
 cache_asked Memory = None
 

@@ -1,5 +1,5 @@
 -- What each command does.
-use Rattle.std.specs.Prelude.{ℕ, ◌+◌, ◌<◌, ◌≤◌}
+use Rattle.std.specs.Prelude.{ℕ, ◌+◌, ◌<◌, ◌≤◌, Bool}
 use Rattle.command_line.specs.declared.command.Settings.{Settings}
 use Rattle.command_line.specs.declared.command.Command.{Command}
 use Rattle.command_line.specs.declared.command.Command.TheVariants as commands
@@ -28,8 +28,9 @@ bounding_shapes s method image = record { question = Shapes s method; image = im
 abbrev pub reporting : Settings → (method image : ℕ) → Asked
 reporting s method image = record { question = Report s method; image = image; operands = 2 }
 
-abbrev pub finding_loops : (image : ℕ) → Asked
-finding_loops image = record { question = Loops; image = image; operands = 1 }
+-- with what is known further, or by constants alone
+abbrev pub finding_loops : (further : Bool) (image : ℕ) → Asked
+finding_loops further image = record { question = Loops further; image = image; operands = 1 }
 
 -- with the bounds by lines of sources where there are two operands
 abbrev pub heading : (image operands : ℕ) → Asked
@@ -50,7 +51,7 @@ task_of (commands.BoundAll s image bounds) = Ask (bounding_all s image)
 task_of (commands.BoundShapes s method image bounds) = Ask (bounding_shapes s method image)
 task_of (commands.Report s method image bounds) = Ask (reporting s method image)
 task_of (commands.Check s image bounds certificate) = Ask (checking s image)
-task_of (commands.Loops image) = Ask (finding_loops image)
+task_of (commands.Loops further image) = Ask (finding_loops further image)
 task_of (commands.Headers image operands) = Ask (heading image operands)
 task_of (commands.Memory image bounds sizes) = Ask (needing image)
 task_of (commands.Plan s rounds table bounds first) = Plan s rounds table

@@ -39,8 +39,8 @@ pub(crate) enum Question {
     Shapes { settings: Settings, method: u32 },
     /// Where the bound of the method that the word names comes from. Its operands are an image and bounds of loops.
     Report { settings: Settings, method: u32 },
-    /// The loops that count. Its operand is an image.
-    Loops,
+    /// The loops that count, with what is known further or by constants alone. Its operand is an image.
+    Loops { further: bool },
     /// The loops as a text of bounds. Its operands are an image, and bounds by lines of sources where they are given.
     Headers,
     /// What a run needs of memory. Its operands are an image, bounds of loops and lengths of arrays.
@@ -104,7 +104,7 @@ fn answer_linked(
         Question::Report { settings, method } => {
             report_linked(alloc, linked, &settings, text_of(words, method), bounds)
         }
-        Question::Loops => loops_linked(alloc, linked),
+        Question::Loops { further } => loops_linked(alloc, linked, further),
         Question::Headers => headers_linked(alloc, linked, bounds),
         Question::Memory => memory_linked(alloc, linked, bounds, operand(operands, 2)),
     }
@@ -127,7 +127,7 @@ fn answer_bare(alloc: Global, question: Question, image: &Bare, operands: &[Vec<
         }
         Question::Bounds { settings } => bounds_bare(alloc, image, &settings, bounds),
         Question::Shapes { settings, .. } => Answer::Ends(shapes_bare(alloc, &settings, bounds)),
-        Question::Loops => Answer::Text(Vec::new(alloc)),
+        Question::Loops { .. } => Answer::Text(Vec::new(alloc)),
         Question::Headers => headers_bare(alloc, bounds),
         Question::Memory => memory_bare(alloc, image, bounds, operand(operands, 2)),
     }

@@ -4,10 +4,10 @@
 ghost use Rattle.jop_cli.specs.Correct.{LinkingIsComplete, LinkRefusalsAreAnswered, LinkRefusalsAreOne, RunsAreTheBytecodes, TracesAreTheRuns, OneBareImage};
 ghost use Rattle.jop_cli.specs.Correct.{BareRunsAreTheBytecodes, BareTracesAreTheRuns, AssemblingIsComplete, AsmRefusalsAreAnswered, AsmRefusalsAreOne};
 ghost use Rattle.jop_cli.specs.Correct.{BoundsAreKept, CheckingIsComplete, FaultsAreAnswered, BoundingIsComplete, BoundRefusalsAreCaused, CausesAreAnswered};
-ghost use Rattle.jop_cli.specs.Correct.{BoundsHoldInRuns, MethodsAreLoadedOnce, WrittenLoopsCount, CountedLoopsAreKept, HeaderFilesAreTaken};
-ghost use Rattle.jop_cli.specs.Correct.{HeaderFilesHaveBounds, NotedLoopsAreKept, QuestionsAreAnswered, NeedsSuffice, NamesTellMethods, ProfilesAreComplete};
-ghost use Rattle.jop_cli.specs.Correct.{ProfilesAreKept, ExecutivesAreThere, PlansAreAnswered, CyclesAreRuns, SlotsAreKept, ReportsAddUp, WorkingIsComplete};
-ghost use Rattle.jop_cli.specs.Correct.{RunsAreOne, WorkLinesAreTrue};
+ghost use Rattle.jop_cli.specs.Correct.{BoundsHoldInRuns, MethodsAreLoadedOnce, WrittenLoopsCount, CountedLoopsAreKept, FurtherLoopsAreKept};
+ghost use Rattle.jop_cli.specs.Correct.{HeaderFilesAreTaken, HeaderFilesHaveBounds, NotedLoopsAreKept, QuestionsAreAnswered, NeedsSuffice, NamesTellMethods};
+ghost use Rattle.jop_cli.specs.Correct.{ProfilesAreComplete, ProfilesAreKept, ExecutivesAreThere, PlansAreAnswered, CyclesAreRuns, SlotsAreKept, ReportsAddUp};
+ghost use Rattle.jop_cli.specs.Correct.{WorkingIsComplete, RunsAreOne, WorkLinesAreTrue};
 ghost use Rattle.jop_cli.specs.Refusals.{NoCommandIsRefused, LongFilesAreRefused, BadImagesAreRefused, UnlinkedImagesAreRefused, DifferingImagesAreRefused};
 ghost use Rattle.jop_cli.specs.Refusals.{LongMethodsAreRefused, LongBareCodesAreRefused, SmallMemoriesAreRefused};
 
@@ -20,7 +20,9 @@ use bound_sound::certificates_are_sound;
 use bound_sound::loads::{activations_load_once, loads_are_misses, stays_load_once};
 use boundary::laws::runs_are_in_a_row;
 use class_file::laws::one_class;
-use counted_activations::laws::{counted_loops_of_runs, found_loops_count};
+use counted_activations::laws::{
+    counted_loops_of_runs, found_loops_count, further_found_loops_count, further_loops_of_runs,
+};
 use image_file::one_image;
 use jopizer::laws::{
     linked_files_are_not_refused, linked_images_are_read, main_is_there, one_linked,
@@ -169,11 +171,14 @@ pub fn slots_are_kept()
 pub fn loops_count()
     ensures written { WrittenLoopsCount }
     ensures kept { CountedLoopsAreKept }
+    ensures further_kept { FurtherLoopsAreKept }
 {
     found_loops_count();
+    further_found_loops_count();
     places_tell_words();
     steps_are_told();
     counted_loops_of_runs();
+    further_loops_of_runs();
 }
 
 /// What `bound` takes from the text of headers is just what is written, so that loops are bounded exactly where no remark stands in place

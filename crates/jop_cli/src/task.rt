@@ -118,7 +118,7 @@ pub(crate) fn task_of(command: Command) -> Task
             image,
             ..
         } => ask(Question::Check { settings }, image, 3),
-        Command::Loops { image } => ask(Question::Loops, image, 1),
+        Command::Loops { further, image } => ask(Question::Loops { further }, image, 1),
         Command::Headers { image, operands } => ask(Question::Headers, image, operands),
         Command::Memory { image, .. } => ask(Question::Memory, image, 3),
         Command::Plan {

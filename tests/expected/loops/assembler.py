@@ -1,6 +1,7 @@
 """Methods from texts, for rows by hand: instructions between semicolons, `LABEL:` in front of one, branches to labels, `!` in front of a name for its wide form. All
 locals are parameters, so those of each frame are the method's first ones; operands at a branch's target are ints, and a handler has what it catches."""
 import os
+import re
 import struct
 import sys
 
@@ -9,8 +10,8 @@ sys.path[:0] = [os.path.join(HERE, '../graphs'), os.path.join(HERE, '../bounds')
 from programs import Hand  # noqa: E402, F401
 
 NAMES = """nop=0 aconst_null=1 iconst_m1=2 iconst_0=3 iconst_1=4 iconst_2=5 iconst_3=6 iconst_4=7 iconst_5=8 lconst_0=9 lconst_1=10 bipush=16 sipush=17 ldc=18 ldc_w=19
-    iload=21 lload=22 aload=25 iload_0=26 iload_1=27 iload_2=28 iload_3=29 istore=54 lstore=55 istore_0=59 istore_1=60 istore_2=61 istore_3=62 lstore_0=63 lstore_1=64
-    lstore_2=65 pop=87 dup=89 iadd=96 isub=100 imul=104 idiv=108 ineg=116 iinc=132 ifeq=153 ifne=154 iflt=155 ifge=156 ifgt=157 ifle=158 if_icmpeq=159 if_icmpne=160
+    iload=21 lload=22 aload=25 aload_0=42 aload_1=43 aload_2=44 aload_3=45 iload_0=26 iload_1=27 iload_2=28 iload_3=29 istore=54 lstore=55 astore=58 istore_0=59 istore_1=60 istore_2=61 istore_3=62 lstore_0=63 lstore_1=64
+    lstore_2=65 iastore=79 pop=87 dup=89 iadd=96 isub=100 imul=104 idiv=108 irem=112 ineg=116 ishl=120 ishr=122 iushr=124 iand=126 ior=128 ixor=130 iinc=132 ifeq=153 ifne=154 iflt=155 ifge=156 ifgt=157 ifle=158 if_icmpeq=159 if_icmpne=160
     if_icmplt=161 if_icmpge=162 if_icmpgt=163 if_icmple=164 goto=167 ireturn=172 return=177 getstatic=178 putstatic=179 invokestatic=184 new=187 newarray=188
     anewarray=189 athrow=191 goto_w=200 arraylength=190""".split()
 OPS = {name: int(op) for name, op in (each.split('=') for each in NAMES)}
@@ -21,12 +22,14 @@ ENDS = ('goto', 'goto_w', 'return', 'ireturn', 'athrow', SWITCH)
 # How many words an instruction puts on the stack, but for those that put one, and invokestatic, which takes ints and gives nothing.
 EFFECTS = {
     **dict.fromkeys(('nop', 'iinc', 'goto', 'goto_w', 'return', 'ineg', 'newarray', 'anewarray', 'arraylength'), 0),
-    **dict.fromkeys(('istore', 'istore_0', 'istore_1', 'istore_2', 'istore_3', 'pop', 'iadd', 'isub', 'imul', 'idiv', 'ireturn', 'athrow', 'putstatic', SWITCH), -1),
+    **dict.fromkeys(('istore', 'istore_0', 'istore_1', 'istore_2', 'istore_3', 'astore', 'pop', 'iadd', 'isub', 'imul', 'idiv', 'irem', 'ishl', 'ishr', 'iushr', 'iand', 'ior', 'ixor',
+                      'ireturn', 'athrow', 'putstatic', SWITCH), -1),
     **dict.fromkeys(('ifeq', 'ifne', 'iflt', 'ifge', 'ifgt', 'ifle'), -1), **dict.fromkeys(('lstore', 'lstore_0', 'lstore_1', 'lstore_2'), -2),
-    **dict.fromkeys(('if_icmpeq', 'if_icmpne', 'if_icmplt', 'if_icmpge', 'if_icmpgt', 'if_icmple'), -2), **dict.fromkeys(('lconst_0', 'lconst_1', 'lload'), 2),
+    'iastore': -3, **dict.fromkeys(('if_icmpeq', 'if_icmpne', 'if_icmplt', 'if_icmpge', 'if_icmpgt', 'if_icmple'), -2), **dict.fromkeys(('lconst_0', 'lconst_1', 'lload'), 2),
 }
 INT_TYPE, OBJECT_TYPE = b'\x01', b'\x07'
 TYPES = {'I': INT_TYPE, 'J': b'\x04'}
+PARAMETERS = re.compile(r'\[+.|.')
 
 
 def parsed(text):
@@ -119,12 +122,13 @@ class Method:
         depth, framed = self.stacks(handlers)
         if not framed:
             return []
-        local = b''.join(TYPES[each] for each in descriptor[1:descriptor.index(')')])
+        parameters = PARAMETERS.findall(descriptor[1:descriptor.index(')')])
+        local = b''.join(TYPES.get(each) or OBJECT_TYPE + struct.pack('>H', self.entries(['class', each])) for each in parameters)
         caught, found, before = {self.places[handler] for _, _, handler in handlers}, [], -1
         for place in sorted(framed):
             stack = OBJECT_TYPE + struct.pack('>H', self.caught) if place in caught else INT_TYPE * depth[place]
             delta = struct.pack('>H', place - before - 1)
-            found.append(b'\xff' + delta + struct.pack('>H', len(local)) + local + struct.pack('>H', 1 if place in caught else depth[place]) + stack)
+            found.append(b'\xff' + delta + struct.pack('>H', len(parameters)) + local + struct.pack('>H', 1 if place in caught else depth[place]) + stack)
             before = place
         return found
 

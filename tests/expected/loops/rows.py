@@ -1,8 +1,9 @@
 #!/usr/bin/env python3
 """rows.py: writes tests/tables/loops: the counted loops of small methods by hand and of javac, and of the programs of javac in other tables.
 
-counted.py works them out; those of hand_loops.py and Loops.java are also said there, and have to be the same. Where javac isn't here, the class files of
-Loops.java are those that stand in the table. `rows.py --tell` says how many of the loops of javac's programs count, and writes nothing.
+counted.py and further.py work them out; those of hand_loops.py, Loops.java and Further.java are also said there, and have to be the same. Where javac isn't
+here, the class files of these two are those that stand in the table. `rows.py --tell` says how many of the loops of javac's programs count, and writes
+nothing.
 """
 import os
 import re
@@ -17,22 +18,23 @@ sys.path[:0] = [HERE, os.path.join(HERE, '../bounds'), os.path.join(HERE, '../..
 import analysis  # noqa: E402
 import counted  # noqa: E402
 import flow  # noqa: E402
+import further  # noqa: E402
 import hand_loops  # noqa: E402
 import tables  # noqa: E402
 from table import rows_of  # noqa: E402
 
 TABLE = os.path.join(HERE, '../../tables/loops')
 TOP = os.path.join(HERE, '../../..')
-SAID = re.compile(r'static \w+ (\w+)\([^)]*\) \{.*\} // (.*)$', re.M)
+SAID = re.compile(r'^ *(?:static )?\w+ (\w+)\([^)]*\) \{.*\} // (.*)$', re.M)
 
 
-def compiled():
-    """the class files of Loops.java"""
+def compiled(title, source):
+    """the class files of a source, whose row has this title"""
     if not shutil.which('javac'):
-        row = next(line for _, line in rows_of(TABLE + '.counted') if line.startswith('program javac '))
+        row = next(line for _, line in rows_of(TABLE + '.counted') if line.startswith('program %s ' % title))
         return analysis.program_of(row)[2]
     with tempfile.TemporaryDirectory() as room:
-        words = ['javac', '--release', '8', '-nowarn', '-Xlint:-options', '-g:none', '-d', room, os.path.join(TOP, 'examples/controller/jop/Io.java'), os.path.join(HERE, 'Loops.java')]
+        words = ['javac', '--release', '8', '-nowarn', '-Xlint:-options', '-g:none', '-d', room, os.path.join(TOP, 'examples/controller/jop/Io.java'), os.path.join(HERE, source)]
         subprocess.run(words, check=True)
         names = sorted(name for name in os.listdir(room) if name.endswith('.class'))
         return [read(os.path.join(room, name)) for name in names]
@@ -66,13 +68,13 @@ def by_hand(program):
         assert came == wanted, (what, wanted, came)
 
 
-def by_javac(program):
-    """compares what is found in Loops.java with what is said there"""
+def by_javac(program, source):
+    """compares what is found in a source with what is said there"""
     found = bounds_of(program)
-    with open(os.path.join(HERE, 'Loops.java'), encoding='utf-8') as file:
+    with open(os.path.join(HERE, source), encoding='utf-8') as file:
         said = SAID.findall(file.read())
     for method, wanted in said:
-        name = next(each for each in program.names if each.startswith('Loops.%s(' % method))
+        name, = (each for each in program.names if re.match(r'%s(\$\w+)?\.%s\(' % (source.removesuffix('.java'), method), each))
         came = of_method(program, found, name)
         assert came == [None if word == 'none' else int(word) for word in wanted.split()], (name, wanted, came)
 
@@ -82,28 +84,30 @@ class Rows(analysis.ProgramRows):
 
     def __init__(self):
         super().__init__()
-        self.count = [0, 0]
+        self.count = [0, 0, 0]
 
     def program(self, title, main, files, reference=None):
-        """a row; its program"""
+        """a row; its program by constants, and with what is known further"""
         super().program(title, main, files, reference)
-        program = counted.Program(main, files)
-        lines = list(program.found())
-        self.wanted += ['  ' + line for line in lines]
-        own = [m for m in range(len(program.coded)) if program.is_own(m)]
-        self.count[0] += len(lines)
-        self.count[1] += sum(len(flow.Graph(program.body(m)).loops() or ()) for m in own)
-        return program
+        programs = counted.Program(main, files), further.Program(main, files)
+        plain, more = (list(program.found()) for program in programs)
+        self.wanted += analysis.counted_lines(plain, more)
+        own = [m for m in range(len(programs[0].coded)) if programs[0].is_own(m)]
+        self.count[0] += len(plain)
+        self.count[1] += len(more)
+        self.count[2] += sum(len(flow.Graph(programs[0].body(m)).loops() or ()) for m in own)
+        return programs
 
 
 def main():
     rows = Rows()
-    by_hand(rows.program('hand', 'H', hand_loops.hand()))
-    by_javac(rows.program('javac', 'Loops', compiled()))
-    rows.count = [0, 0]
+    by_hand(rows.program('hand', 'H', hand_loops.hand())[0])
+    by_javac(rows.program('javac', 'Loops', compiled('javac', 'Loops.java'))[0], 'Loops.java')
+    by_javac(rows.program('further', 'Further', compiled('further', 'Further.java'))[1], 'Further.java')
+    rows.count = [0, 0, 0]
     for title, main_class, reference in tables.javac_programs():
         rows.program(title, main_class, analysis.program_of(' '.join(['program', title, main_class, *reference]))[2], reference)
-    print('javac: %d of %d loops' % tuple(rows.count))
+    print('javac: %d, further %d of %d loops' % tuple(rows.count))
     if '--tell' not in sys.argv:
         with open(TABLE + '.counted', 'w', encoding='utf-8') as file:
             file.write(''.join(row + '\n' for row in rows.rows))

@@ -1,9 +1,12 @@
 use Rattle.jop_cli.proofs.LoopsLaw.{written_loops_count}
-use Rattle.jop_cli.proofs.CountedLaw.{counted_loops_are_kept}
+use Rattle.jop_cli.proofs.CountedLaw.{counted_loops_are_kept, further_loops_are_kept}
 use Rattle.jop_cli.proofs.laws.loops_count.Goals as goal
 
 pub returns-clause-written : goal.returns-clause-written
-returns-clause-written c = written_loops_count c.found_loops_count.ensures
+returns-clause-written c = written_loops_count c.found_loops_count.ensures c.further_found_loops_count.ensures
 
 pub returns-clause-kept : goal.returns-clause-kept
 returns-clause-kept c = counted_loops_are_kept c.places_tell_words.ensures c.steps_are_told.ensures c.counted_loops_of_runs.ensures
+
+pub returns-clause-further_kept : goal.returns-clause-further_kept
+returns-clause-further_kept c = further_loops_are_kept c.places_tell_words.ensures c.steps_are_told.ensures c.further_loops_of_runs.ensures
