@@ -86,15 +86,7 @@ def method(chance):
     pieces[:0] = [setting(chance) for _ in range(chance.choice([1, 2, 2, 3, 4]))]
     for _ in range(chance.choice([0, 0, 0, 1, 1, 2])):
         pieces.insert(chance.randrange(len(pieces) + 1), plain(chance, labels))
-    pieces.append('return')
-    handlers = []
-    if chance.random() < 0.2:
-        first = chance.randrange(len(pieces) - 1)
-        last = chance.randrange(first + 1, len(pieces))
-        pieces[first], pieces[last] = 'a: ' + pieces[first], 'b: ' + pieces[last]
-        pieces += ['c: pop', 'goto ' + chance.choice(labels), 'nop', 'return']
-        handlers = [('a', 'b', 'c')]
-    return '; '.join(pieces), handlers
+    return made_loops.ended(chance, pieces, labels, 0.2)
 
 
 def program(chance, methods):

@@ -73,6 +73,19 @@ def loop(chance, local, name):
     return [start, 'goto t' + name, header + ': ' + step(chance, local, by), 't%s: ' % name + test(chance, local, header), end + ': nop'], header, end
 
 
+def ended(chance, pieces, labels, share):
+    """the text of the pieces, with a handler in this share of all, and its handlers"""
+    pieces.append('return')
+    handlers = []
+    if chance.random() < share:
+        first = chance.randrange(len(pieces) - 1)
+        last = chance.randrange(first + 1, len(pieces))
+        pieces[first], pieces[last] = 'a: ' + pieces[first], 'b: ' + pieces[last]
+        pieces += ['c: pop', 'goto ' + chance.choice(labels), 'nop', 'return']
+        handlers = [('a', 'b', 'c')]
+    return '; '.join(pieces), handlers
+
+
 def method(chance):
     """a text and its handlers"""
     pieces, header, end = loop(chance, 0, '')
@@ -87,15 +100,7 @@ def method(chance):
     if chance.random() < 0.1:
         at = chance.randrange(len(pieces))
         pieces[at:at + 1] = [pieces[at]] * 2 if ':' not in pieces[at] else [pieces[at]]
-    pieces.append('return')
-    handlers = []
-    if chance.random() < 0.25:
-        first = chance.randrange(len(pieces) - 1)
-        last = chance.randrange(first + 1, len(pieces))
-        pieces[first], pieces[last] = 'a: ' + pieces[first], 'b: ' + pieces[last]
-        pieces += ['c: pop', 'goto ' + chance.choice(labels), 'nop', 'return']
-        handlers = [('a', 'b', 'c')]
-    return '; '.join(pieces), handlers
+    return ended(chance, pieces, labels, 0.25)
 
 
 def program(chance, methods):
