@@ -1,127 +1,80 @@
--- When a round finds nothing more.
-use Rattle.std.proofs.Common.{◌≡◌, ◌⊎◌, ℕ, zero, suc, ◌+◌, ◌<◌, ◌≤◌, List, [], ◌∷◌, length, Option, Some, None, refl, sym, ap, ◌∙◌, subst, inl, inr, arith}
-use Rattle.std.specs.Prelude.{IsSome, ◌++◌}
+-- What is put is found, and nothing is lost.
+use Rattle.std.proofs.Common.{◌≡◌, ◌⊎◌, ℕ, ◌<◌, List, length, filter, set, Option, Some, None, refl, sym, ap, ◌∙◌, subst, inl, inr, arith}
+use Rattle.std.specs.Prelude.{is_none}
 use Rattle.std.proofs.lemmas.Bool.{cases_eq}
-use Rattle.std.proofs.lemmas.List.{get_or_append_left, get_or_push, length-append}
-use Rattle.lists.proofs.Lemmas.{none≢some}
+use Rattle.std.proofs.lemmas.List.{length-set, get_or-set_same, get_or-set_other}
+use Rattle.lists.proofs.Lemmas.{none≢some, some_same}
+use Rattle.loop_nest.proofs.Searching.{fewer-set}
 use Rattle.further_rules.specs.declared.table.KnownInt.{KnownInt}
+use Rattle.further_rules.specs.Found.{Table, known_at}
 use Rattle.further_finder.specs.declared.knowing.Holds.{Holds}
 use Rattle.further_finder.specs.declared.knowing.Holds.TheVariants.{AnInt, AnArray}
-use Rattle.further_finder.specs.Code.{CodeOf}
-use Rattle.further_rules.specs.Found.{Table, known_at}
-use Rattle.further_finder.specs.Rounds.{AreNext, Grows, IsFollowed, IsKept, IsRound, found_of}
+use Rattle.further_finder.specs.Knowing.{found_of}
+use Rattle.further_finder.specs.Answers.{AreKept}
+use Rattle.further_finder.specs.Rounds.{IsPut, left}
 
--- at how many places nothing is found
-pub unfilled : List (Option KnownInt) → ℕ
-unfilled [] = 0
-unfilled (None ∷ xs) = suc (unfilled xs)
-unfilled (Some k ∷ xs) = unfilled xs
+fewer : (xs : List (Option KnownInt)) (p : ℕ) (k : KnownInt) → p < length xs → known_at xs p ≡ None → length (filter is_none (set xs p (Some k))) < length (filter is_none xs)
+fewer xs p k lt fresh = fewer-set is_none xs p (Some k) None lt (ap is_none fresh) refl
 
-abbrev Kept : (old new : List (Option KnownInt)) → Type 0
-Kept old new = (p : ℕ) → p < length old → IsKept (known_at old p) (known_at new p)
+put_at : (t t' : Table) (h : Holds) (p : ℕ) (k : KnownInt) → IsPut t h p k t' → found_of t' h ≡ set (found_of t h) p (Some k)
+put_at t t' AnInt p k put = put.0
+put_at t t' AnArray p k put = put.0
 
-kept_tail : (x y : Option KnownInt) (xs ys : List (Option KnownInt)) → Kept (x ∷ xs) (y ∷ ys) → Kept xs ys
-kept_tail x y xs ys kept p lt = kept (suc p) (omega arith)
+put_else : (t t' : Table) (h g : Holds) (p : ℕ) (k : KnownInt) → IsPut t h p k t' → (h ≡ g) ⊎ (found_of t' g ≡ found_of t g)
+put_else t t' AnInt AnInt p k put = inl refl
+put_else t t' AnInt AnArray p k put = inr put.1
+put_else t t' AnArray AnInt p k put = inr put.1
+put_else t t' AnArray AnArray p k put = inl refl
 
-not_more_by : (x y : Option KnownInt) → IsKept x y → (n l : ℕ) → n ≤ l → unfilled (y ∷ []) + n ≤ unfilled (x ∷ []) + l
-unfolding unfilled
-not_more_by None None kept n l le = omega arith
-not_more_by None (Some k) kept n l le = omega arith
-not_more_by (Some k) None kept n l le = absurd (none≢some k (kept k refl))
-not_more_by (Some k) (Some j) kept n l le = omega arith
-
--- where the first is found newly, or there is less in the rest
-fewer_by : (x y : Option KnownInt) → IsKept x y → (n l : ℕ) → n ≤ l → ((x ≡ None) × IsSome y) ⊎ (n < l) → unfilled (y ∷ []) + n < unfilled (x ∷ []) + l
-unfolding unfilled
-fewer_by None None kept n l le (inl new) = absurd (cc)
-fewer_by None None kept n l le (inr lt) = omega arith
-fewer_by None (Some k) kept n l le more = omega arith
-fewer_by (Some k) None kept n l le more = absurd (none≢some k (kept k refl))
-fewer_by (Some k) (Some j) kept n l le (inl new) = absurd (none≢some k (sym new.0))
-fewer_by (Some k) (Some j) kept n l le (inr lt) = omega arith
-
-unfilled-cons : (x : Option KnownInt) (xs : List (Option KnownInt)) → unfilled (x ∷ xs) ≡ unfilled (x ∷ []) + unfilled xs
-unfolding unfilled
-unfilled-cons None xs = omega arith
-unfilled-cons (Some k) xs = omega arith
-
-pub not_more : (old new : List (Option KnownInt)) → length new ≡ length old → Kept old new → unfilled new ≤ unfilled old
-not_more [] [] long kept = omega arith
-not_more [] (y ∷ ys) long kept = absurd (omega (arith, long))
-not_more (x ∷ xs) [] long kept = absurd (omega (arith, long))
-not_more (x ∷ xs) (y ∷ ys) long kept =
-    let rest = not_more xs ys (omega arith) (kept_tail x y xs ys kept) in
-    let all = not_more_by x y (kept 0 (omega arith)) (unfilled ys) (unfilled xs) rest in
-    let a = unfilled-cons x xs in
-    let b = unfilled-cons y ys in
+pub put_left : (t t' : Table) (h : Holds) (p : ℕ) (k : KnownInt) → IsPut t h p k t' → p < length (found_of t h) → known_at (found_of t h) p ≡ None → left t' < left t
+put_left t t' AnInt p k put lt fresh =
+    let less = fewer t.ints p k lt fresh in
+    let a = ap (λ (xs : List (Option KnownInt)). length (filter is_none xs)) put.0 in
+    let b = ap (λ (xs : List (Option KnownInt)). length (filter is_none xs)) put.1 in
+    omega arith
+put_left t t' AnArray p k put lt fresh =
+    let less = fewer t.lengths p k lt fresh in
+    let a = ap (λ (xs : List (Option KnownInt)). length (filter is_none xs)) put.0 in
+    let b = ap (λ (xs : List (Option KnownInt)). length (filter is_none xs)) put.1 in
     omega arith
 
-fewer_at : (old new : List (Option KnownInt)) → length new ≡ length old → Kept old new → (p : ℕ) → p < length old → known_at old p ≡ None → IsSome (known_at new p) → unfilled new < unfilled old
-fewer_at [] new long kept p lt none some = absurd (omega arith)
-fewer_at (x ∷ xs) [] long kept p lt none some = absurd (omega (arith, long))
-fewer_at (x ∷ xs) (y ∷ ys) long kept zero lt none some =
-    let rest = not_more xs ys (omega arith) (kept_tail x y xs ys kept) in
-    let all = fewer_by x y (kept 0 (omega arith)) (unfilled ys) (unfilled xs) rest (inl (none, some)) in
-    let a = unfilled-cons x xs in
-    let b = unfilled-cons y ys in
-    omega arith
-fewer_at (x ∷ xs) (y ∷ ys) long kept (suc p) lt none some =
-    let rest = not_more xs ys (omega arith) (kept_tail x y xs ys kept) in
-    let less = fewer_at xs ys (omega arith) (kept_tail x y xs ys kept) p (omega arith) none some in
-    let all = fewer_by x y (kept 0 (omega arith)) (unfilled ys) (unfilled xs) rest (inr less) in
-    let a = unfilled-cons x xs in
-    let b = unfilled-cons y ys in
-    omega arith
+module _ (t t' : Table) (h : Holds) (p : ℕ) (k : KnownInt) (put : IsPut t h p k t') (within : p < length (found_of t h)) where
+  pub put_long : (g : Holds) → length (found_of t' g) ≡ length (found_of t g)
+  put_long g = elim (put_else t t' h g p k put) [
+    | inl same ↦
+        subst (λ (x : Holds). length (found_of t' x) ≡ length (found_of t x)) same
+        (ap (λ (xs : List (Option KnownInt)). length xs) (put_at t t' h p k put) ∙ length-set (found_of t h) p (Some k))
+    | inr same ↦ ap (λ (xs : List (Option KnownInt)). length xs) same
+  ]
 
-pub fewer : (old new : List (Option KnownInt)) → length new ≡ length old → Kept old new → Grows old new → unfilled new < unfilled old
-fewer old new long kept g = fewer_at old new long kept g.place g.within g.not_yet g.now
+  there : known_at (found_of t' h) p ≡ Some k
+  there = ap (λ (xs : List (Option KnownInt)). known_at xs p) (put_at t t' h p k put) ∙ get_or-set_same (found_of t h) p (Some k) None within
 
--- ---- a round, place by place
+  elsewhere : (r : ℕ) → (r ≡ p → ⊥) → known_at (found_of t' h) r ≡ known_at (found_of t h) r
+  elsewhere r other = ap (λ (xs : List (Option KnownInt)). known_at xs r) (put_at t t' h p k put) ∙ get_or-set_other (found_of t h) p r (Some k) None other
 
-pub next_none : (code : CodeOf) (t : Table) (h : Holds) (new : List (Option KnownInt)) → new ≡ [] → AreNext code t h 0 new
-next_none code t h new is = record {
-  long = ap (λ (xs : List (Option KnownInt)). length xs) is;
-  kept = λ p lt. absurd (omega arith);
-  given = λ p lt. absurd (omega arith);
-}
+  -- what is found was found before, or is what was put
+  pub put_cases : (g : Holds) (r : ℕ) (x : KnownInt) → known_at (found_of t' g) r ≡ Some x → (known_at (found_of t g) r ≡ Some x) ⊎ ((h ≡ g) × (r ≡ p) × (k ≡ x))
+  put_cases g r x is = elim (put_else t t' h g p k put) [
+    | inl same ↦ subst (λ (y : Holds). known_at (found_of t' y) r ≡ Some x → (known_at (found_of t y) r ≡ Some x) ⊎ ((h ≡ y) × (r ≡ p) × (k ≡ x))) same here is
+    | inr same ↦ inl (ap (λ (xs : List (Option KnownInt)). known_at xs r) (sym same) ∙ is)
+  ]
+    where
+      here : known_at (found_of t' h) r ≡ Some x → (known_at (found_of t h) r ≡ Some x) ⊎ ((h ≡ h) × (r ≡ p) × (k ≡ x))
+      here at = elim (cases_eq r p) [
+        | inl same ↦ inr (refl, same, some_same k x (sym (subst (λ (y : ℕ). known_at (found_of t' h) y ≡ Some k) (sym same) there) ∙ at))
+        | inr other ↦ inl (sym (elsewhere r other) ∙ at)
+      ]
 
-pub next_more : (code : CodeOf) (t : Table) (h : Holds) (n : ℕ) (found new : List (Option KnownInt)) (o : Option KnownInt) → AreNext code t h n found → IsKept (known_at (found_of t h) n) o → IsFollowed code t h n o
-    → new ≡ found ++ o ∷ [] → AreNext code t h (n + 1) new
-next_more code t h n found new o are kept given is = record {
-  long = ap (λ (xs : List (Option KnownInt)). length xs) is ∙ (length-append found (o ∷ []) ∙ (let long = are.long in omega arith));
-  kept = λ p lt. elim (cases_eq p n) [
-    | inl last ↦ subst (λ (q : ℕ). IsKept (known_at (found_of t h) q) (known_at new q)) (sym last) (subst (IsKept (known_at (found_of t h) n)) (sym at) kept)
-    | inr other ↦ let below : p < n = omega arith in subst (IsKept (known_at (found_of t h) p)) (sym (earlier p below)) (are.kept p below)
-  ];
-  given = λ p lt. elim (cases_eq p n) [
-    | inl last ↦ subst (λ (q : ℕ). IsFollowed code t h q (known_at new q)) (sym last) (subst (IsFollowed code t h n) (sym at) given)
-    | inr other ↦ let below : p < n = omega arith in subst (IsFollowed code t h p) (sym (earlier p below)) (are.given p below)
-  ];
-}
-  where
-    at : known_at new n ≡ o
-    at = ap (λ (xs : List (Option KnownInt)). known_at xs n) is ∙ get_or_push found o None n are.long
-
-    earlier : (p : ℕ) → p < n → known_at new p ≡ known_at found p
-    earlier p lt = ap (λ (xs : List (Option KnownInt)). known_at xs p) is ∙ get_or_append_left found (o ∷ []) None p (let long = are.long in omega arith)
-
--- what is kept of ints and of lengths makes fewer places unfilled where something is found
-pub fewer_left : (code : CodeOf) (old new : Table) → ((h : Holds) → length (found_of old h) ≡ length code.parts) → IsRound code old new
-    → Grows old.ints new.ints ⊎ Grows old.lengths new.lengths → unfilled new.ints + unfilled new.lengths < unfilled old.ints + unfilled old.lengths
-fewer_left code old new long round grown = by grown
-  where
-    same : (h : Holds) → length (found_of new h) ≡ length (found_of old h)
-    same h = (round h).long ∙ sym (long h)
-
-    kept : (h : Holds) → Kept (found_of old h) (found_of new h)
-    kept h p lt = (round h).kept p (let l = long h in omega arith)
-
-    ints : unfilled new.ints ≤ unfilled old.ints
-    ints = not_more old.ints new.ints (same AnInt) (kept AnInt)
-
-    lengths : unfilled new.lengths ≤ unfilled old.lengths
-    lengths = not_more old.lengths new.lengths (same AnArray) (kept AnArray)
-
-    by : Grows old.ints new.ints ⊎ Grows old.lengths new.lengths → unfilled new.ints + unfilled new.lengths < unfilled old.ints + unfilled old.lengths
-    by (inl g) = let less = fewer old.ints new.ints (same AnInt) (kept AnInt) g in let l = lengths in omega arith
-    by (inr g) = let less = fewer old.lengths new.lengths (same AnArray) (kept AnArray) g in let l = ints in omega arith
+  -- what was found is found still
+  pub put_kept : known_at (found_of t h) p ≡ None → (g : Holds) → AreKept (found_of t g) (found_of t' g)
+  put_kept fresh g r x was = elim (put_else t t' h g p k put) [
+    | inl same ↦ subst (λ (y : Holds). known_at (found_of t y) r ≡ Some x → known_at (found_of t' y) r ≡ Some x) same here was
+    | inr same ↦ ap (λ (xs : List (Option KnownInt)). known_at xs r) same ∙ was
+  ]
+    where
+      here : known_at (found_of t h) r ≡ Some x → known_at (found_of t' h) r ≡ Some x
+      here at = elim (cases_eq r p) [
+        | inl same ↦ absurd (none≢some x (sym (subst (λ (y : ℕ). known_at (found_of t h) y ≡ None) (sym same) fresh) ∙ at))
+        | inr other ↦ elsewhere r other ∙ at
+      ]

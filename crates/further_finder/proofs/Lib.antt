@@ -6,11 +6,14 @@ pub mod Reading
 pub mod Fitting
 pub mod Placing
 pub mod Entering
-pub mod Holding
+pub mod Idling
+pub mod Answering
+pub mod Joining
 pub mod Following
+pub mod Lining
 pub mod Giving
 pub mod Filling
-pub mod Marking
+pub mod Writing
 pub mod Sounding
 pub mod Completing
 pub mod Closing

@@ -19,19 +19,14 @@ use Rattle.further_rules.specs.Known.PushesArray.{numbers, references, of_static
 use Rattle.further_rules.specs.Known.Stores.{stores}
 use Rattle.further_rules.specs.Known.StoresArray.{keeps}
 use Rattle.further_rules.specs.Laws.{LastWritesExist, LinesBeforeAreReached}
-use Rattle.further_rules.specs.declared.table.KnownInt.{KnownInt}
 use Rattle.further_finder.specs.declared.parts.Part.{Part}
 use Rattle.further_finder.specs.declared.parts.Part.TheVariants as does
 use Rattle.further_finder.specs.Parts.{HasRow, IsPart, part_at}
 use Rattle.further_finder.specs.Code.{CodeOf, IsCodeOf}
 use Rattle.further_rules.specs.Found.{Table, IsFollowing, known_at}
 use Rattle.further_finder.specs.Knowing.{GivesInt, GivesIntAt, GivesLength, GivesLengthAt, IsConstantPart, IsDoneBefore, IsReferenceLoad}
+use Rattle.further_finder.specs.Rounds.{IsSound}
 use Rattle.further_finder.proofs.Fitting.{ends_there, loads_reference, pushes_constant}
-
--- what is found is so
-pub record IsSound (P : Program) (known : Known) (m : ℕ) (t : Table) : Type 0 where
-  pub ints : (p : ℕ) (x : KnownInt) → known_at t.ints p ≡ Some x → IsFollowing P m p × Pushes P known m x.from p x.value
-  pub lengths : (p : ℕ) (x : KnownInt) → known_at t.lengths p ≡ Some x → IsFollowing P m p × (n : ℕ) × (x.value ≡ pos n) × PushesArray P known m x.from p n
 
 -- an int that isn't negative is a number of elements
 natural_of : (x : ℤ) → pos 0 ≤ℤ x → (n : ℕ) × (x ≡ pos n)

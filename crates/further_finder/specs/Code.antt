@@ -1,15 +1,17 @@
 -- The code of a method as it is searched.
-use Rattle.std.specs.Prelude.{◌≡◌, ℕ, ◌*◌, ◌/◌, ◌<◌, List, length, Contains}
+use Rattle.std.specs.Prelude.{◌≡◌, ℕ, ◌*◌, ◌/◌, ◌<◌, Bool, true, List, length, Contains}
 use Rattle.loop_nest.specs.Digraph.{Digraph, AreSources, sources_of}
 use Rattle.bytecode_model.specs.Program.{Program}
 use Rattle.method_flow.specs.Graphs.{IsGraphOf}
 use Rattle.code_scan.specs.Scans.{Scanned, IsScanOf}
+use Rattle.further_rules.specs.Search.{AreBacks, flag_at}
 use Rattle.further_rules.specs.Known.{Known}
 use Rattle.loop_rules.specs.Sites.{AreNeverPut}
 use Rattle.further_rules.specs.Arrays.{AreApart}
 use Rattle.further_rules.specs.Laws.{StaysAtStarts}
 use Rattle.further_finder.specs.declared.parts.Part.{Part}
-use Rattle.further_finder.specs.Parts.{AreParts}
+use Rattle.further_finder.specs.declared.parts.Part.TheVariants as does
+use Rattle.further_finder.specs.Parts.{AreParts, part_at}
 
 -- what its instructions do, by place, which places are named and where instructions end, and its graph
 pub record CodeOf : Type 0 where
@@ -17,10 +19,32 @@ pub record CodeOf : Type 0 where
   pub scan : Scanned
   pub graph : Digraph
 
--- a graph with two nodes for each place, and for each node the sources of the edges to it
-pub record AreRoutes (c : CodeOf) (ss : List (List ℕ)) : Type 0 where
+-- it neither loads what a local variable holds nor writes one
+abbrev pub IsIdle : Part → Type 0
+IsIdle (does.Load k) = ⊥
+IsIdle (does.LoadReference k) = ⊥
+IsIdle (does.Store k) = ⊥
+IsIdle (does.StoreReference k) = ⊥
+IsIdle (does.StoreLong k) = ⊥
+IsIdle (does.Increment k) = ⊥
+IsIdle part = Unit {0}
+
+-- only nodes that are such instructions are flagged
+pub record AreIdle (parts : List Part) (nodes : ℕ) (flags : List Bool) : Type 0 where
+  pub long : length flags ≡ nodes
+  pub each : (x : ℕ) → flag_at flags x ≡ true → (p : ℕ) × (x ≡ 2 * p) × IsIdle (part_at parts p)
+
+-- it doesn't stop at such an instruction
+abbrev pub StopsAtLocals : List Part → (Stop : ℕ → Type 0) → Type 0
+StopsAtLocals parts Stop = (p : ℕ) → IsIdle (part_at parts p) → ¬ Stop (2 * p)
+
+-- a graph with two nodes for each place, and for each node the sources of the edges to it, and to which it may be skipped back from it past such instructions
+pub record AreRoutes (c : CodeOf) (ss : List (List ℕ)) (backs : List ℕ) : Type 0 where
   pub nodes : c.graph.nodes ≡ 2 * length c.parts
   pub sources : AreSources c.graph.edges c.graph.nodes ss
+  pub flags : List Bool
+  pub idle : AreIdle c.parts c.graph.nodes flags
+  pub skips : AreBacks c.graph flags backs
 
 -- an edge leads to the instruction at the place
 pub record IsEntered (g : Digraph) (place : ℕ) : Type 0 where

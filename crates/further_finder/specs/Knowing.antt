@@ -1,28 +1,23 @@
 -- Which ints, and arrays of which lengths, lines push, as far as that is found already.
-use Rattle.std.specs.Prelude.{◌≡◌, ◌↔◌, ℕ, ◌*◌, ◌<◌, ◌≤ℤ◌, ℤ, pos, Bool, false, List, length, Contains, Some, None}
+use Rattle.std.specs.Prelude.{◌≡◌, ◌↔◌, ℕ, ◌≤ℤ◌, ℤ, pos, false, List, Some, None}
 use Rattle.std.specs.declared.option.Option.{Option}
 use Rattle.bytecode_model.specs.Program.{Program}
 use Rattle.method_flow.specs.Nodes.{At}
 use Rattle.code_scan.specs.Scans.{is_named, line_before}
 use Rattle.further_rules.specs.Writing.{MayBeLast}
-use Rattle.further_rules.specs.Leading.{flag_at}
 use Rattle.further_rules.specs.declared.table.KnownInt.{KnownInt}
 use Rattle.further_rules.specs.Found.{IsFollowing, Table, known_at}
 use Rattle.further_finder.specs.declared.knowing.Local.{Local}
+use Rattle.further_finder.specs.declared.knowing.Holds.{Holds}
 use Rattle.further_finder.specs.declared.knowing.Holds.TheVariants as kinds
 use Rattle.further_finder.specs.declared.rows.Arithmetic.{Arithmetic}
 use Rattle.further_finder.specs.declared.parts.Part.{Part}
 use Rattle.further_finder.specs.declared.parts.Part.TheVariants as does
 use Rattle.further_finder.specs.Arithmetic.{IsComputed}
-use Rattle.further_finder.specs.Parts.{part_at, written}
+use Rattle.further_finder.specs.Parts.{part_at}
 use Rattle.further_finder.specs.Code.{CodeOf}
 
 -- ---- what is found already
-
--- the flag of each node is false just where it is an instruction that writes the local variable
-pub record AreOthersIn (parts : List Part) (local nodes : ℕ) (flags : List Bool) : Type 0 where
-  pub long : length flags ≡ nodes
-  pub each : (u : ℕ) → u < nodes → (flag_at flags u ≡ false) ↔ ((p : ℕ) × (u ≡ 2 * p) × Contains (written (part_at parts p)) local)
 
 abbrev pub an_int : (local : ℕ) → Local
 an_int k = record { index = k; holds = kinds.AnInt }
@@ -33,6 +28,15 @@ an_array k = record { index = k; holds = kinds.AnArray }
 -- what stores into the local variable
 abbrev pub store_of : Local → Part
 store_of l = elim l.holds [ kinds.AnInt ↦ does.Store l.index | kinds.AnArray ↦ does.StoreReference l.index ]
+
+-- what loads it
+abbrev pub load_of : Local → Part
+load_of l = elim l.holds [ kinds.AnInt ↦ does.Load l.index | kinds.AnArray ↦ does.LoadReference l.index ]
+
+-- what is found of ints, or of lengths of arrays
+abbrev pub found_of : Table → Holds → List (Option KnownInt)
+found_of t kinds.AnInt = t.ints
+found_of t kinds.AnArray = t.lengths
 
 -- by what is found, the instruction at the place stores this number in the local variable
 pub record IsStoredBy (parts : List Part) (found : List (Option KnownInt)) (l : Local) (place : ℕ) (c : ℤ) : Type 0 where
@@ -119,3 +123,7 @@ GivesIntAt P m code t = GivesAt P m code (GivesInt P m code t)
 
 abbrev pub GivesLengthAt : Program → (method : ℕ) → CodeOf → Table → (place from : ℕ) → ℤ → Type 0
 GivesLengthAt P m code t = GivesAt P m code (GivesLength P m code t)
+
+abbrev pub GivesBy : Program → (method : ℕ) → CodeOf → Table → Holds → (place from : ℕ) → ℤ → Type 0
+GivesBy P m code t kinds.AnInt = GivesIntAt P m code t
+GivesBy P m code t kinds.AnArray = GivesLengthAt P m code t

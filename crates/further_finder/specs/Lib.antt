@@ -5,6 +5,7 @@ pub mod Parts
 pub mod Lines
 pub mod Code
 pub mod Knowing
+pub mod Answers
 pub mod Rounds
 pub mod Laws
 pub mod Tables

@@ -1,48 +1,107 @@
 -- What is found from round to round.
-use Rattle.std.specs.Prelude.{◌≡◌, ℕ, ◌<◌, ℤ, List, length, Some, None, IsSome}
+use Rattle.std.specs.Prelude.{◌≡◌, ℕ, ◌+◌, ◌<◌, ℤ, pos, Bool, true, false, List, length, All, Contains, Some, None, filter, is_none, set, take, IsSome, IsTrue}
 use Rattle.std.specs.declared.option.Option.{Option}
 use Rattle.bytecode_model.specs.Program.{Program}
-use Rattle.further_rules.specs.Known.{Known}
+use Rattle.code_scan.specs.Scans.{line_before}
+use Rattle.further_rules.specs.Known.{Known, Pushes, PushesArray}
 use Rattle.further_rules.specs.declared.table.KnownInt.{KnownInt}
+use Rattle.further_rules.specs.Found.{IsFollowing, Table, known_at}
+use Rattle.further_finder.specs.declared.parts.Part.{Part}
+use Rattle.further_finder.specs.declared.parts.Part.TheVariants as does
 use Rattle.further_finder.specs.declared.knowing.Holds.{Holds}
 use Rattle.further_finder.specs.declared.knowing.Holds.TheVariants.{AnInt, AnArray}
+use Rattle.further_finder.specs.declared.answers.Answer.{Answer}
+use Rattle.further_finder.specs.declared.lines.Line.{Line}
+use Rattle.further_finder.specs.Answers.{AreAnswers}
 use Rattle.further_finder.specs.Code.{CodeOf, IsCodeOf}
-use Rattle.further_rules.specs.Found.{Table, known_at}
-use Rattle.further_finder.specs.Knowing.{GivesIntAt, GivesLengthAt, IsGiven}
+use Rattle.further_finder.specs.Knowing.{GivesBy, found_of}
 
-abbrev pub found_of : Table → Holds → List (Option KnownInt)
-found_of t AnInt = t.ints
-found_of t AnArray = t.lengths
+-- ---- lines
 
-abbrev pub GivesBy : Program → (method : ℕ) → CodeOf → Table → Holds → (place from : ℕ) → ℤ → Type 0
-GivesBy P m code t AnInt = GivesIntAt P m code t
-GivesBy P m code t AnArray = GivesLengthAt P m code t
+-- of which sort it is what lines push of which the last one does so
+abbrev pub gives_of : Part → Option Holds
+gives_of (does.Int c) = Some AnInt
+gives_of (does.Field c) = Some AnInt
+gives_of (does.Load k) = Some AnInt
+gives_of does.Length = Some AnInt
+gives_of (does.Compute a) = Some AnInt
+gives_of does.NewArray = Some AnArray
+gives_of (does.LoadReference k) = Some AnArray
+gives_of (does.StaticArray c) = Some AnArray
+gives_of (does.FieldArray c) = Some AnArray
+gives_of does.StoreNumber = Some AnArray
+gives_of part = None
 
--- what was found is kept
-abbrev pub IsKept : (old new : Option KnownInt) → Type 0
-IsKept old new = (k : KnownInt) → old ≡ Some k → new ≡ Some k
+-- control comes to the place from the last of the lines alone
+pub record IsLineOf (code : CodeOf) (line : Line) : Type 0 where
+  pub place_within : line.place < length code.parts
+  pub last_within : line.last < length code.parts
+  pub follows : (P : Program) (known : Known) (m : ℕ) → IsCodeOf P known m code
+      → IsFollowing P m line.place × (line_before code.scan line.place ≡ Some line.last)
 
--- where nothing was found, it is just what follows of lines that end at the place
-abbrev pub IsFollowed : CodeOf → Table → Holds → (place : ℕ) → Option KnownInt → Type 0
-IsFollowed code t h p new =
-    (P : Program) (known : Known) (m : ℕ) → IsCodeOf P known m code → known_at (found_of t h) p ≡ None → IsGiven (GivesBy P m code t h p) new
+-- whatever follows by whatever is found, of lines that end at the place, it is of this sort
+abbrev pub GivesOnly : CodeOf → (place : ℕ) → (Holds → Type 0) → Type 0
+GivesOnly code p Only =
+    (P : Program) (known : Known) (m : ℕ) → IsCodeOf P known m code → (t : Table) (h : Holds) (from : ℕ) (x : ℤ) → GivesBy P m code t h p from x → Only h
 
--- so at each of the first places
-pub record AreNext (code : CodeOf) (t : Table) (h : Holds) (places : ℕ) (new : List (Option KnownInt)) : Type 0 where
-  pub long : length new ≡ places
-  pub kept : (p : ℕ) → p < places → IsKept (known_at (found_of t h) p) (known_at new p)
-  pub given : (p : ℕ) → p < places → IsFollowed code t h p (known_at new p)
+-- these are lines, and all that end at the first so many places of which something may follow
+pub record AreLines (code : CodeOf) (n : ℕ) (lines : List Line) : Type 0 where
+  pub each : All (IsLineOf code) lines
+  pub all : (p : ℕ) → p < n → GivesOnly code p (λ h. (line : Line) × Contains lines line × (line.place ≡ p) × (line.holds ≡ h))
 
--- one round leads from what is found to this
-abbrev pub IsRound : CodeOf → (old new : Table) → Type 0
-IsRound code old new = (h : Holds) → AreNext code old h (length code.parts) (found_of new h)
+-- ---- what is found
 
--- something is found that wasn't
-pub record Grows (old new : List (Option KnownInt)) : Type 0 where
-  pub place : ℕ
-  pub within : place < length old
-  pub not_yet : known_at old place ≡ None
-  pub now : IsSome (known_at new place)
+-- it is so what is found
+pub record IsSound (P : Program) (known : Known) (m : ℕ) (t : Table) : Type 0 where
+  pub ints : (p : ℕ) (x : KnownInt) → known_at t.ints p ≡ Some x → IsFollowing P m p × Pushes P known m x.from p x.value
+  pub lengths : (p : ℕ) (x : KnownInt) → known_at t.lengths p ≡ Some x → IsFollowing P m p × (n : ℕ) × (x.value ≡ pos n) × PushesArray P known m x.from p n
+
+-- so it is, and so is what is told of loads
+pub record IsFinding (code : CodeOf) (t : Table) (ts : List (Option Answer)) : Type 0 where
+  pub sound : (P : Program) (known : Known) (m : ℕ) → IsCodeOf P known m code → IsSound P known m t
+  pub answers : AreAnswers code t ts
+
+-- each list has an entry for each place
+pub record AreSized (code : CodeOf) (t : Table) (ts : List (Option Answer)) : Type 0 where
+  pub found : (h : Holds) → length (found_of t h) ≡ length code.parts
+  pub answers : length ts ≡ length code.parts
+
+-- at how many places nothing is found
+abbrev pub left : Table → ℕ
+left t = length (filter is_none t.ints) + length (filter is_none t.lengths)
+
+-- what follows of lines that end at the place is found
+abbrev pub IsClosedAt : CodeOf → Table → Holds → (place : ℕ) → Type 0
+IsClosedAt code t h p =
+    (P : Program) (known : Known) (m : ℕ) → IsCodeOf P known m code → (from : ℕ) (x : ℤ) → GivesBy P m code t h p from x → IsSome (known_at (found_of t h) p)
+
+-- ---- steps
+
+-- this is put, and nothing else
+abbrev pub IsPut : Table → Holds → (place : ℕ) → KnownInt → (new : Table) → Type 0
+IsPut t AnInt p k t' = (t'.ints ≡ set t.ints p (Some k)) × (t'.lengths ≡ t.lengths)
+IsPut t AnArray p k t' = (t'.lengths ≡ set t.lengths p (Some k)) × (t'.ints ≡ t.ints)
+
+-- what is given of lines is put, if anything is
+abbrev pub IsPutIfGiven : Line → (given : Option KnownInt) → (old new : Table) → (is : Bool) → Type 0
+IsPutIfGiven line None t t' b = (t' ≡ t) × (b ≡ false)
+IsPutIfGiven line (Some k) t t' b = IsPut t line.holds line.place k t' × (b ≡ true)
+
+-- What was found and told was so, and so it is now; something is found now of which nothing was, or else nothing is, and this is closed.
+pub record IsStep (code : CodeOf) (Closed : Type 0) (t t' : Table) (ts ts' : List (Option Answer)) (grown : Bool) : Type 0 where
+  pub sized : AreSized code t' ts'
+  pub finding : IsFinding code t ts → IsFinding code t' ts'
+  pub less : IsTrue grown → left t' < left t
+  pub same : grown ≡ false → t' ≡ t
+  pub closed : IsFinding code t ts → grown ≡ false → Closed
+
+-- a visit of a line
+abbrev pub IsVisited : CodeOf → Line → (old new : Table) → (told now : List (Option Answer)) → (grown : Bool) → Type 0
+IsVisited code line t = IsStep code (IsClosedAt code t line.holds line.place) t
+
+-- a visit of the first so many lines
+abbrev pub IsRound : CodeOf → List Line → (n : ℕ) → (old new : Table) → (told now : List (Option Answer)) → (grown : Bool) → Type 0
+IsRound code lines n t = IsStep code ((line : Line) → Contains (take n lines) line → IsClosedAt code t line.holds line.place) t
 
 -- nothing is found at so many places
 pub record AreEmpty (places : ℕ) (t : Table) : Type 0 where

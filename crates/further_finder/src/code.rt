@@ -10,16 +10,15 @@ ghost use Rattle.method_flow.specs.Nodes.{At, IsEdge, IsReached};
 ghost use Rattle.loop_rules.specs.Sites.{AreNeverPut, AreSitesOf};
 ghost use Rattle.further_rules.specs.Arrays.{AreApart, AreArraysRead};
 ghost use Rattle.further_rules.specs.Known.{Known};
-ghost use Rattle.further_rules.specs.Last.{AreLastWrites};
-ghost use Rattle.further_finder.specs.Code.{IsCodeOf, IsEntered};
-ghost use Rattle.further_finder.specs.Knowing.{AreOthersIn};
-ghost use Rattle.further_finder.specs.Parts.{AreParts, part_at};
+ghost use Rattle.further_rules.specs.Last.{AreNearest, StopsAtWrites};
+ghost use Rattle.further_finder.specs.Code.{AreIdle, IsCodeOf, IsEntered, IsIdle, StopsAtLocals};
+ghost use Rattle.further_finder.specs.Parts.{part_at};
 
-use crate::parts::{Part, part_at, parts, writes};
+use crate::parts::{Part, part_at, parts};
 use base::NoMemory;
 use code_scan::CodeScan;
 use flow_graph::whole_graph;
-use further_rules::{LastWrites, last_writes};
+use further_rules::{LastWrites, Stops, backs, nearest};
 use loop_nest::Graph;
 use loop_nest::digraph::Sources;
 use loop_rules::MethodSites;
@@ -28,13 +27,14 @@ use std::alloc::Global;
 use std::marker::Model;
 
 /// The code of a method: what its instructions do, by place, which places are named and where instructions end, and its graph with
-/// the sources of the edges to each node.
+/// the sources of the edges to each node, and the node to which searches skip back from it.
 #[derive(Drop)]
 pub struct MethodCode {
     parts: Vec<Part>,
     scan: CodeScan,
     graph: Graph,
     sources: Sources,
+    backs: Vec<u32>,
 }
 
 impl Model for MethodCode {
@@ -44,7 +44,7 @@ impl Model for MethodCode {
 
     ghost view = { λ c. record { parts = c.parts.items; scan = c.scan; graph = c.graph } };
 
-    ghost invariant = { λ c. AreRoutes (record { parts = c.parts.items; scan = c.scan; graph = c.graph }) c.sources };
+    ghost invariant = { λ c. AreRoutes (record { parts = c.parts.items; scan = c.scan; graph = c.graph }) c.sources c.backs.items };
 }
 
 impl MethodCode {
@@ -66,12 +66,15 @@ impl MethodCode {
         let graph = whole_graph(alloc, method)?;
         let sources = Sources::by_target(alloc, graph.nodes() as usize, graph.edges())?;
         let parts = parts(alloc, method, sites, arrays)?;
+        let idle = idle(alloc, &parts, graph.nodes())?;
+        let backs = backs(alloc, &graph, &sources, &idle)?;
         let scan = CodeScan::new(alloc, method)?;
         Ok(MethodCode {
             parts,
             scan,
             graph,
             sources,
+            backs,
         })
     }
 
@@ -111,15 +114,55 @@ impl MethodCode {
         is_entered(&self.graph, &self.sources, place)
     }
 
-    /// What may have written the local variable last once control has come to the instruction at the place and passed it.
-    pub fn last_writes(&self, alloc: Global, place: u32, local: u32) -> Result<LastWrites, NoMemory>
+    /// Where a search stops that goes back from the instruction at a place, at which it doesn't.
+    pub fn nearest<S: Stops>(
+        &self,
+        alloc: Global,
+        stops: &S,
+        place: u32,
+    ) -> Result<LastWrites, NoMemory>
         requires { place < length self.now.parts }
-        ensures { IfOk result (λ found. (P : Program) (known : Known) (m : ℕ) → IsCodeOf P known m self.now
-            → IsReached (IsEdge P m) (At place) → AreLastWrites P m local (At place) found) }
+        ensures { IfOk result (λ found. (P : Program) (m k : ℕ) → IsGraphOf P m self.now.graph → StopsAtWrites P m k (S.stops_at stops.now)
+            → StopsAtLocals self.now.parts (S.stops_at stops.now) → ¬ S.stops_at stops.now (2 * place)
+            → AreNearest P m k (At place) (S.stops_at stops.now) found) }
     {
-        let found = writes_before(alloc, &self.parts, &self.graph, &self.sources, place, local)?;
-        Ok(found)
+        // The number of nodes fits 32 bits.
+        let _ = self.graph.nodes();
+        nearest(
+            alloc,
+            &self.graph,
+            &self.sources,
+            &self.backs,
+            stops,
+            2 * place,
+        )
     }
+}
+
+/// Whether an instruction that does so neither loads what a local variable holds nor writes one.
+fn is_idle(part: Part) -> bool
+    ensures { IsTrue result → IsIdle part }
+{
+    match part {
+        Part::Load(_)
+        | Part::LoadReference(_)
+        | Part::Store(_)
+        | Part::StoreReference(_)
+        | Part::StoreLong(_)
+        | Part::Increment(_) => false,
+        _ => true,
+    }
+}
+
+/// So for each of so many nodes, whether it is such an instruction.
+fn idle(alloc: Global, parts: &[Part], nodes: u32) -> Result<Vec<bool>, NoMemory>
+    ensures { IfOk result (λ flags. AreIdle parts.now nodes flags.items) }
+{
+    let mut flags = Vec::with_capacity(alloc, nodes as usize)?;
+    for node in 0..nodes {
+        flags.push(node % 2 == 0 && is_idle(part_at(parts, node / 2)))?;
+    }
+    Ok(flags)
 }
 
 /// Whether an edge leads to the instruction at a place.
@@ -144,41 +187,4 @@ fn is_entered(graph: &Graph, sources: &Sources, place: u32) -> bool
         return true;
     }
     has_source(graph, sources, place)
-}
-
-/// What may have written the local variable last once control has come to the instruction at the place and passed it.
-fn writes_before(
-    alloc: Global,
-    parts: &[Part],
-    graph: &Graph,
-    sources: &Sources,
-    place: u32,
-    local: u32,
-) -> Result<LastWrites, NoMemory>
-    requires nodes { graph.now.nodes ≡ 2 * length parts.now }
-    requires sources { AreSources graph.now.edges graph.now.nodes sources.now }
-    requires within { place < length parts.now }
-    ensures { IfOk result (λ found. (P : Program) (known : Known) (m : ℕ) → AreParts P known m parts.now → IsGraphOf P m graph.now
-        → IsReached (IsEdge P m) (At place) → AreLastWrites P m local (At place) found) }
-{
-    code_lines::laws::lines_follow_one_another();
-    // The number of nodes fits 32 bits.
-    let _ = graph.nodes();
-    let others = others(alloc, parts, graph, local)?;
-    let found = last_writes(alloc, graph, sources, &others, 2 * place)?;
-    Ok(found)
-}
-
-/// For each node of the graph whether it is no instruction that writes the local variable.
-fn others(alloc: Global, parts: &[Part], graph: &Graph, local: u32) -> Result<Vec<bool>, NoMemory>
-    requires { graph.now.nodes ≡ 2 * length parts.now }
-    ensures { IfOk result (λ flags. AreOthersIn parts.now local graph.now.nodes flags.items) }
-{
-    let nodes = graph.nodes();
-    let mut flags = vec![in alloc; true; nodes as usize]?;
-    for place in 0..nodes / 2 {
-        let part = part_at(parts, place);
-        flags[2 * place as usize] = !writes(part, local);
-    }
-    Ok(flags)
 }

@@ -2,10 +2,12 @@
 //! local variables into which only one int is stored, lengths of arrays, those that fields hold among them, and what is computed of such.
 #![tactic(auto)]
 
+mod answers;
 mod arithmetic;
 mod code;
 mod knowing;
 pub mod laws;
+mod lines;
 mod parts;
 mod rounds;
 mod rows;

@@ -1,121 +1,83 @@
-//! What lines push, by rounds: each finds what follows from what is found already.
+//! What lines push, by rounds: each asks the lines of which nothing is found, until nothing more follows.
 
-ghost use Rattle.std.specs.Prelude.{◌≡◌, ◌↔◌, ◌⊎◌, ℕ, ◌*◌, length, IfOk, IsSome, IsTrue, None};
+ghost use Rattle.std.specs.Prelude.{◌≡◌, ℕ, ◌*◌, ◌<◌, length, All, IfOk};
 ghost use Rattle.bytecode_model.specs.Program.{Program};
 ghost use Rattle.method_flow.specs.Flow.{IsCodedOf};
 ghost use Rattle.loop_rules.specs.Sites.{AreNeverPut, AreSitesOf};
 ghost use Rattle.further_rules.specs.Arrays.{AreApart, AreArraysRead};
 ghost use Rattle.further_rules.specs.Known.{Known};
 ghost use Rattle.further_finder.specs.Code.{IsCodeOf};
-ghost use Rattle.further_rules.specs.Found.{AreKnownInts, AreKnownLengths, known_at};
-ghost use Rattle.further_finder.specs.Knowing.{IsGiven};
-ghost use Rattle.further_finder.specs.Rounds.{AreEmpty, AreNext, GivesBy, Grows, IsFollowed, IsKept, IsRound, found_of};
+ghost use Rattle.further_rules.specs.Found.{AreKnownInts, AreKnownLengths};
+ghost use Rattle.further_finder.specs.Knowing.{found_of};
+ghost use Rattle.further_finder.specs.Rounds.{AreEmpty, AreSized, IsLineOf, IsPutIfGiven, IsRound, IsVisited};
 
+use crate::answers::{Answer, settle};
 use crate::code::MethodCode;
-use crate::knowing::{Holds, int_at, length_at};
+use crate::knowing::{Holds, found_of, given_at};
+use crate::lines::{Line, lines};
 use base::NoMemory;
 use further_rules::{KnownInt, KnownTable, known_at};
 use loop_rules::MethodSites;
 use method_flow::FlowMethod;
 use std::alloc::Global;
 
-/// What is found of ints, or of lengths of arrays.
-fn found_of(found: &KnownTable, holds: Holds) -> &[Option<KnownInt>]
-    ensures { result.now ≡ found_of found.now holds }
+/// Puts what is given of lines, if anything is; whether it is.
+fn take(found: &mut KnownTable, line: Line, given: Option<KnownInt>) -> bool
+    requires { line.place < length (found_of found.old line.holds) }
+    ensures { IsPutIfGiven line given found.old found.new result }
 {
-    match holds {
-        Holds::AnInt => &found.ints,
-        Holds::AnArray => &found.lengths,
+    if given.is_none() {
+        return false;
     }
+    match line.holds {
+        Holds::AnInt => found.ints[line.place as usize] = given,
+        Holds::AnArray => found.lengths[line.place as usize] = given,
+    }
+    true
 }
 
-/// What follows of lines that end at a place.
-fn given_at(
+/// Finds what lines push, if nothing is found of them; whether something is found now.
+fn visit(
     alloc: Global,
     code: &MethodCode,
-    found: &KnownTable,
-    holds: Holds,
-    place: u32,
-) -> Result<Option<KnownInt>, NoMemory>
-    ensures { IfOk result (λ o. (P : Program) (known : Known) (m : ℕ) → IsCodeOf P known m code.now
-        → IsGiven (GivesBy P m code.now found.now holds place) o) }
+    line: Line,
+    found: &mut KnownTable,
+    answers: &mut Vec<Option<Answer>>,
+) -> Result<bool, NoMemory>
+    requires line { IsLineOf code.now line }
+    requires sized { AreSized code.now found.old answers.old.items }
+    ensures { IfOk result (IsVisited code.now line found.old found.new answers.old.items answers.new.items) }
 {
-    match holds {
-        Holds::AnInt => int_at(alloc, code, found, place),
-        Holds::AnArray => length_at(alloc, code, found, place),
+    code_lines::laws::lines_follow_one_another();
+    further_rules::laws::last_writes_exist();
+    further_rules::laws::lines_before_are_reached();
+    if known_at(found_of(found, line.holds), line.place).is_some() {
+        return Ok(false);
     }
+    settle(alloc, code, found, answers, line.last)?;
+    let given = given_at(code, found, answers, line);
+    Ok(take(found, line, given))
 }
 
-/// What is found of lines that end at a place, or else follows.
-fn next_at(
+/// Visits the lines once; whether something is found.
+fn round(
     alloc: Global,
     code: &MethodCode,
-    found: &KnownTable,
-    holds: Holds,
-    place: u32,
-) -> Result<Option<KnownInt>, NoMemory>
-    ensures kept { IfOk result (IsKept (known_at (found_of found.now holds) place)) }
-    ensures given { IfOk result (IsFollowed code.now found.now holds place) }
+    lines: &[Line],
+    found: &mut KnownTable,
+    answers: &mut Vec<Option<Answer>>,
+) -> Result<bool, NoMemory>
+    requires lines { All (IsLineOf code.now) lines.now }
+    requires sized { AreSized code.now found.old answers.old.items }
+    ensures { IfOk result (IsRound code.now lines.now (length lines.now) found.old found.new answers.old.items answers.new.items) }
 {
-    match known_at(found_of(found, holds), place) {
-        Some(known) => Ok(Some(known)),
-        None => given_at(alloc, code, found, holds, place),
-    }
-}
-
-/// So at each place.
-fn next(
-    alloc: Global,
-    code: &MethodCode,
-    found: &KnownTable,
-    holds: Holds,
-) -> Result<Vec<Option<KnownInt>>, NoMemory>
-    ensures { IfOk result (λ new. AreNext code.now found.now holds (length code.now.parts) new.items) }
-{
-    let mut new = Vec::with_capacity(alloc, code.places() as usize)?;
-    for place in 0..code.places() {
-        let known = next_at(alloc, code, found, holds, place)?;
-        new.push(known)?;
-    }
-    Ok(new)
-}
-
-/// What is found after one more round.
-fn round(alloc: Global, code: &MethodCode, found: &KnownTable) -> Result<KnownTable, NoMemory>
-    ensures { IfOk result (λ new. IsRound code.now found.now new) }
-{
-    let ints = next(alloc, code, found, Holds::AnInt)?;
-    let lengths = next(alloc, code, found, Holds::AnArray)?;
-    Ok(KnownTable { ints, lengths })
-}
-
-/// Whether it is found only now.
-fn is_new(old: Option<KnownInt>, new: Option<KnownInt>) -> bool
-    ensures { IsTrue result ↔ ((old ≡ None) × IsSome new) }
-{
-    old.is_none() && new.is_some()
-}
-
-/// Whether something is found that wasn't.
-fn grows(old: &[Option<KnownInt>], new: &[Option<KnownInt>]) -> bool
-    requires { length new.now ≡ length old.now }
-    ensures { IsTrue result ↔ Grows old.now new.now }
-{
-    for index in 0..old.len() {
-        if is_new(old[index], new[index]) {
-            return true;
+    let mut grown = false;
+    for line in lines {
+        if visit(alloc, code, *line, found, answers)? {
+            grown = true;
         }
     }
-    false
-}
-
-/// Whether a round found something.
-fn has_grown(old: &KnownTable, new: &KnownTable) -> bool
-    requires ints { length new.now.ints ≡ length old.now.ints }
-    requires lengths { length new.now.lengths ≡ length old.now.lengths }
-    ensures { IsTrue result ↔ (Grows old.now.ints new.now.ints ⊎ Grows old.now.lengths new.now.lengths) }
-{
-    grows(&old.ints, &new.ints) || grows(&old.lengths, &new.lengths)
+    Ok(grown)
 }
 
 /// Nothing is found yet.
@@ -144,14 +106,11 @@ fn known_in(alloc: Global, code: &MethodCode) -> Result<KnownTable, NoMemory>
     code_lines::laws::lines_follow_one_another();
     code_lines::laws::one_stands_before();
     opcodes::laws::starts_follow_one_another();
+    let lines = lines(alloc, code)?;
     let mut found = nothing(alloc, code)?;
-    loop {
-        let new = round(alloc, code, &found)?;
-        if !has_grown(&found, &new) {
-            return Ok(found);
-        }
-        found = new;
-    }
+    let mut answers = vec![in alloc; None; code.places() as usize]?;
+    while round(alloc, code, &lines, &mut found, &mut answers)? {}
+    Ok(found)
 }
 
 /// By the place behind them, the ints that lines of the method push, and the lengths of the arrays that they push, where control comes

@@ -3,6 +3,7 @@ pub mod Coming
 pub mod Ending
 pub mod Oneness
 pub mod Searching
+pub mod Skipping
 pub mod Lasting
 pub mod Examples
 pub mod Keeping

@@ -1,23 +1,29 @@
--- What may have written a local variable last, found in the graph of a method.
-use Rattle.std.specs.Prelude.{◌≡◌, ◌↔◌, ℕ, ◌/◌, ◌<◌, ◌&&◌, Bool, false, not, List, length, Contains, Some, None, IsTrue}
+-- What may have written a local variable last, found by searches in the graph of a method.
+use Rattle.std.specs.Prelude.{◌≡◌, ◌↔◌, ◌⊎◌, ℕ, ◌*◌, Contains, Some, None, IsTrue}
+use Rattle.std.specs.declared.option.Option.{Option}
 use Rattle.bytecode_model.specs.Program.{Program}
-use Rattle.method_flow.specs.Nodes.{Node, number_of}
+use Rattle.method_flow.specs.Nodes.{Node, At, IsEdge, IsReached, number_of}
+use Rattle.code_lines.specs.Lines.{Writes}
 use Rattle.further_rules.specs.declared.writes.LastWrites.{LastWrites}
 use Rattle.further_rules.specs.Writing.{NodeWrites, MayBeLast}
-use Rattle.further_rules.specs.Leading.{flag_at}
 
--- for each of so many nodes whether it is no instruction that writes the local variable
-pub record AreOthers (P : Program) (m k nodes : ℕ) (flags : List Bool) : Type 0 where
-  pub long : length flags ≡ nodes
-  pub each : (u : Node) → number_of u < nodes → (flag_at flags (number_of u) ≡ false) ↔ NodeWrites P m u k
+-- it stops at instructions alone, among them all that write the local variable
+pub record StopsAtWrites (P : Program) (m k : ℕ) (Stop : ℕ → Type 0) : Type 0 where
+  pub instruction : (x : ℕ) → Stop x → (p : ℕ) × (x ≡ 2 * p)
+  pub writes : (p : ℕ) → Writes P m p k → Stop (2 * p)
 
--- the edge leads from a node that is none of the others to one that is flagged
-abbrev pub enters : (others flags : List Bool) → ℕ × ℕ → Bool
-enters others flags e = not (flag_at others e.0) && flag_at flags e.1
+-- just at those that do
+abbrev pub StopsAtWritesAlone : Program → (method local : ℕ) → (Stop : ℕ → Type 0) → Type 0
+StopsAtWritesAlone P m k Stop = (u : Node) → Stop (number_of u) ↔ NodeWrites P m u k
 
--- the place of the instruction from which the edge leads
-abbrev pub writer_of : ℕ × ℕ → ℕ
-writer_of e = e.0 / 2
+-- The instructions at which a search stopped that went back from the node: what may have written the local variable last at one of these may have done so at
+-- the node, and else nothing but that it was written on no way from the beginning of the method, where the search came to that.
+pub record AreNearest (P : Program) (m k : ℕ) (u : Node) (Stop : ℕ → Type 0) (found : LastWrites) : Type 0 where
+  pub stops : (p : ℕ) → Contains found.places.items p → Stop (2 * p) × IsReached (IsEdge P m) (At p)
+  pub led : (p : ℕ) (w : Option ℕ) → Contains found.places.items p → MayBeLast P m k (At p) w → MayBeLast P m k u w
+  pub all : (w : Option ℕ) → MayBeLast P m k u w
+      → ((p : ℕ) × Contains found.places.items p × MayBeLast P m k (At p) w) ⊎ (IsTrue found.unwritten × (w ≡ None))
+  pub begun : IsTrue found.unwritten → MayBeLast P m k u None
 
 -- just the instructions that may have written it last once control has come to the node and passed it, and whether there is a way on which none did
 pub record AreLastWrites (P : Program) (m k : ℕ) (u : Node) (found : LastWrites) : Type 0 where

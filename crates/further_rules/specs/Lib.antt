@@ -3,7 +3,7 @@ pub mod Known
 pub mod Fields
 pub mod Beginning
 pub mod Laws
-pub mod Leading
+pub mod Search
 pub mod Last
 pub mod Found
 pub mod Arrays

@@ -8,5 +8,6 @@ mod search;
 mod table;
 mod writes;
 
+pub use search::{Stops, backs};
 pub use table::{KnownInt, KnownTable, known_at};
-pub use writes::{LastWrites, last_writes};
+pub use writes::{LastWrites, last_writes, nearest};

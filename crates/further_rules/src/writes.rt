@@ -1,75 +1,71 @@
 //! Which instructions may have written a local variable last (JVM Specification SE 8, 2.6.1).
 
-ghost use Rattle.std.specs.Prelude.{◌≡◌, ℕ, ◌/◌, ◌<◌, [], ◌∷◌, true, false, length, All, IfOk, filter, map};
+ghost use Rattle.std.specs.Prelude.{◌≡◌, ◌↔◌, ℕ, ◌/◌, ◌<◌, [], ◌∷◌, Bool, false, List, length, IfOk, IsTrue, map};
 ghost use Rattle.bytecode_model.specs.Program.{Program};
-ghost use Rattle.loop_nest.specs.Digraph.{AreSources};
+ghost use Rattle.loop_nest.specs.Digraph.{AreSources, Digraph};
 ghost use Rattle.method_flow.specs.Graphs.{IsGraphOf};
 ghost use Rattle.method_flow.specs.Nodes.{IsEdge, IsReached, Node, number_of};
-ghost use Rattle.further_rules.specs.Leading.{flag_at};
-ghost use Rattle.further_rules.specs.Last.{AreLastWrites, AreOthers, enters, writer_of};
+ghost use Rattle.further_rules.specs.Last.{AreLastWrites, AreNearest, StopsAtWrites, StopsAtWritesAlone};
+ghost use Rattle.further_rules.specs.Search.{AreBacks, AreWithin, IsBegunBy, IsPassed, IsSearched};
 
-use crate::search::leading;
+use crate::search::{Searched, Stops, search};
 use base::NoMemory;
 use loop_nest::Graph;
 use loop_nest::digraph::Sources;
 use std::alloc::Global;
 
-/// What may have written a local variable last: the places of instructions, in bytes of code, and whether on some way none did.
+/// What may have written a local variable last, as far as a search for that has gone: the places of instructions, in bytes of code, and
+/// whether on some way none did.
 #[derive(Drop)]
 pub struct LastWrites {
     pub places: Vec<u32>,
     pub unwritten: bool,
 }
 
-/// Whether the edge leads from a node that isn't flagged as another one to one that is flagged.
-fn enters(others: &[bool], flags: &[bool], edge: (u32, u32)) -> bool
-    requires source { edge.0 < length others.now }
-    requires target { edge.1 < length flags.now }
-    ensures { result ≡ enters others.now flags.now edge }
+/// The places of the instructions at these nodes.
+fn places_of(alloc: Global, nodes: &[u32]) -> Result<Vec<u32>, NoMemory>
+    ensures { IfOk result (λ places. places.items ≡ map (λ x. x / 2) nodes.now) }
 {
-    !others[edge.0 as usize] && flags[edge.1 as usize]
-}
-
-/// The places of the instructions from which edges lead to nodes that are flagged, but for those at nodes that are flagged as others.
-fn places_of(
-    alloc: Global,
-    edges: &[(u32, u32)],
-    others: &[bool],
-    flags: &[bool],
-) -> Result<Vec<u32>, NoMemory>
-    requires { All (λ e. (e.0 < length others.now) × (e.1 < length flags.now)) edges.now }
-    ensures { IfOk result (λ places. places.items ≡ map writer_of (filter (enters others.now flags.now) edges.now)) }
-{
-    let mut places = Vec::new(alloc);
-    for edge in edges {
-        if enters(others, flags, *edge) {
-            places.push(edge.0 / 2)?;
-        }
+    let mut places = Vec::with_capacity(alloc, nodes.len())?;
+    for node in nodes {
+        places.push(*node / 2)?;
     }
     Ok(places)
 }
 
-/// The same for a node that is no instruction that writes the local variable.
-fn last_before(
+/// Whether the search came to the beginning of the method and didn't stop there.
+fn is_begun<S: Stops>(stops: &S, searched: &Searched) -> bool
+    requires { 0 < length searched.now.flags.items }
+    ensures { (g : Digraph) (backs : List ℕ) (end : ℕ) → IsSearched g backs (S.stops_at stops.now) end searched.now.flags.items searched.now.stops.items
+        → IsTrue result ↔ IsBegunBy g backs (S.stops_at stops.now) end }
+{
+    searched.flags[0] && !stops.is_stop(0)
+}
+
+/// Where the search for what may have written a local variable last stops that goes back from a node at which it doesn't. `sources` has
+/// for each node of the method's graph the sources of the edges to it, and `backs` the node to which the search skips back from it, past
+/// nodes at which it doesn't stop.
+pub fn nearest<S: Stops>(
     alloc: Global,
     g: &Graph,
     sources: &Sources,
-    others: &[bool],
+    backs: &[u32],
+    stops: &S,
     node: u32,
 ) -> Result<LastWrites, NoMemory>
     requires within { node < g.now.nodes }
     requires sources { AreSources g.now.edges g.now.nodes sources.now }
-    requires long { length others.now ≡ g.now.nodes }
-    requires other { flag_at others.now node ≡ true }
-    ensures { IfOk result (λ found. (P : Program) (m k : ℕ) (u : Node) → IsGraphOf P m g.now → AreOthers P m k g.now.nodes others.now → number_of u ≡ node
-        → AreLastWrites P m k u found) }
+    requires backs { AreWithin g.now.nodes backs.now }
+    ensures { IfOk result (λ found. (P : Program) (m k : ℕ) (u : Node) (idle : List Bool) → IsGraphOf P m g.now → AreBacks g.now idle backs.now
+        → IsPassed idle (S.stops_at stops.now) → StopsAtWrites P m k (S.stops_at stops.now)
+        → number_of u ≡ node → ¬ S.stops_at stops.now node → AreNearest P m k u (S.stops_at stops.now) found) }
 {
     crate::laws::last_writes_are_reached();
-    let flags = leading(alloc, g, sources, others, node)?;
-    let places = places_of(alloc, g.edges(), others, &flags)?;
+    let searched = search(alloc, g, sources, backs, stops, node)?;
+    let places = places_of(alloc, &searched.stops)?;
     Ok(LastWrites {
         places,
-        unwritten: flags[0],
+        unwritten: is_begun(stops, &searched),
     })
 }
 
@@ -83,24 +79,26 @@ fn one_write(alloc: Global, place: u32) -> Result<LastWrites, NoMemory>
     })
 }
 
-/// What may have written the local variable last once control has come to the node and passed it. `sources` has for each node of the
-/// method's graph the sources of the edges to it, and `others` whether it is no instruction that writes the local variable.
-pub fn last_writes(
+/// What may have written the local variable last once control has come to the node and passed it. `writes` stops at the instructions
+/// that write it.
+pub fn last_writes<S: Stops>(
     alloc: Global,
     g: &Graph,
     sources: &Sources,
-    others: &[bool],
+    backs: &[u32],
+    writes: &S,
     node: u32,
 ) -> Result<LastWrites, NoMemory>
     requires within { node < g.now.nodes }
     requires sources { AreSources g.now.edges g.now.nodes sources.now }
-    requires long { length others.now ≡ g.now.nodes }
-    ensures { IfOk result (λ found. (P : Program) (m k : ℕ) (u : Node) → IsGraphOf P m g.now → AreOthers P m k g.now.nodes others.now → number_of u ≡ node
-        → IsReached (IsEdge P m) u → AreLastWrites P m k u found) }
+    requires backs { AreWithin g.now.nodes backs.now }
+    ensures { IfOk result (λ found. (P : Program) (m k : ℕ) (u : Node) (idle : List Bool) → IsGraphOf P m g.now → AreBacks g.now idle backs.now
+        → IsPassed idle (S.stops_at writes.now) → StopsAtWritesAlone P m k (S.stops_at writes.now)
+        → number_of u ≡ node → IsReached (IsEdge P m) u → AreLastWrites P m k u found) }
 {
-    if others[node as usize] {
-        last_before(alloc, g, sources, others, node)
-    } else {
+    if writes.is_stop(node) {
         one_write(alloc, node / 2)
+    } else {
+        nearest(alloc, g, sources, backs, writes, node)
     }
 }

@@ -22,10 +22,11 @@ mod HeaderLemmas
 mod Acyclic
 mod Ranking
 mod Entered
-mod Others
+mod Stopping
 mod Staying
 mod StoredLast
 mod Sources
 mod Listing
 mod Adding
 mod Bodies
+mod Skipping

@@ -14,12 +14,12 @@ use Rattle.further_rules.specs.Laws.{LastWritesAreReached}
 use Rattle.loop_finder.specs.declared.beginning.SoFar.{SoFar}
 use Rattle.loop_finder.specs.declared.beginning.SoFar.TheVariants.{NotEntered, One, Unknown}
 use Rattle.loop_acts.specs.Writing.{IsOnly}
-use Rattle.loop_finder.specs.Beginning.{AllStore, IsJoined, IsKnownBy, StoresIfEntering}
+use Rattle.loop_finder.specs.Beginning.{AllStore, IsJoined, IsKnownBeginning, StoresIfEntering}
 use Rattle.loop_finder.proofs.Entered.{entered}
 
 module _ (P : Program) (known : Known) (m : ℕ) (g : Digraph) (h k : ℕ) where
   abbrev By : List ℕ → SoFar → Type 0
-  By us x = IsKnownBy P known m g h k us x
+  By us x = IsKnownBeginning P known m g h k us x
 
   module _ (us : List ℕ) (v : ℕ) where
     -- a member more

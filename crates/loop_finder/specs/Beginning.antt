@@ -1,5 +1,5 @@
 -- With what local variables begin in the loops of a method, by whichever edge they are entered.
-use Rattle.std.specs.Prelude.{◌≡◌, ◌≢◌, ◌↔◌, ◌⊎◌, ℕ, ◌*◌, ◌<◌, ℤ, Bool, false, List, length, All, Contains, Some}
+use Rattle.std.specs.Prelude.{◌≡◌, ◌≢◌, ◌⊎◌, ℕ, ◌*◌, ℤ, List, All, Contains, Some}
 use Rattle.std.specs.declared.option.Option.{Option}
 use Rattle.bytecode_model.specs.Program.{Program}
 use Rattle.loop_nest.specs.Digraph.{Digraph}
@@ -11,15 +11,12 @@ use Rattle.further_rules.specs.Known.{Known, Stores}
 use Rattle.further_rules.specs.Writing.{MayBeLast}
 use Rattle.further_rules.specs.Beginning.{BeginsAt}
 use Rattle.further_rules.specs.Laws.{StaysAtStarts}
-use Rattle.loop_acts.specs.declared.effects.Act.{Act}
 use Rattle.loop_acts.specs.Acts.{AreActs}
 use Rattle.loop_acts.specs.Rules.{further}
 use Rattle.loop_finder.specs.declared.body.Beginning.{Beginning}
 use Rattle.loop_finder.specs.declared.beginning.SoFar.{SoFar}
 use Rattle.loop_finder.specs.declared.beginning.SoFar.TheVariants.{NotEntered, One, Unknown}
-use Rattle.loop_acts.specs.Writing.{IsWriterAt}
 use Rattle.loop_finder.specs.Counting.{Body, IsOnlyStep}
-use Rattle.loop_marks.specs.Reach.{flag_at}
 
 -- what a method's instructions do by the further rules, and its graph; control stays at instructions
 pub record IsBodyOf (P : Program) (known : Known) (m : ℕ) (b : Body) : Type 0 where
@@ -28,11 +25,6 @@ pub record IsBodyOf (P : Program) (known : Known) (m : ℕ) (b : Body) : Type 0 
   pub stays : StaysAtStarts P m
 
 -- ---- at one node
-
--- for each of so many nodes whether it is no instruction that writes the local variable
-pub record AreOthersOf (acts : List Act) (local nodes : ℕ) (flags : List Bool) : Type 0 where
-  pub long : length flags ≡ nodes
-  pub each : (u : ℕ) → u < nodes → (flag_at flags u ≡ false) ↔ ((p : ℕ) × IsWriterAt acts u local p)
 
 -- each instruction that may have written the local variable last, once control has passed the node, stores the int
 abbrev pub AllStore : Program → Known → (method local : ℕ) → Node → ℤ → Type 0
@@ -47,10 +39,10 @@ StoresIfEntering P known m g h k c v =
 
 -- What is known of a beginning by the edges from some nodes to the header: the loop is entered by none of them; it is, and all that was stored is one int, with
 -- which alone the local variable may begin; or it begins with no int.
-abbrev pub IsKnownBy : Program → Known → (method : ℕ) → Digraph → (h local : ℕ) → (sources : List ℕ) → SoFar → Type 0
-IsKnownBy P known m g h k us NotEntered = All (IsMember g h) us
-IsKnownBy P known m g h k us (One c) = All (StoresIfEntering P known m g h k c) us × ((other : ℤ) → BeginsAt P known m g h k other → other ≡ c)
-IsKnownBy P known m g h k us Unknown = (c : ℤ) → ¬ BeginsAt P known m g h k c
+abbrev pub IsKnownBeginning : Program → Known → (method : ℕ) → Digraph → (h local : ℕ) → (sources : List ℕ) → SoFar → Type 0
+IsKnownBeginning P known m g h k us NotEntered = All (IsMember g h) us
+IsKnownBeginning P known m g h k us (One c) = All (StoresIfEntering P known m g h k c) us × ((other : ℤ) → BeginsAt P known m g h k other → other ≡ c)
+IsKnownBeginning P known m g h k us Unknown = (c : ℤ) → ¬ BeginsAt P known m g h k c
 
 -- what is known once the loop is entered by one edge more, with this int or with none
 abbrev pub IsJoined : (old : SoFar) → Option ℤ → (new : SoFar) → Type 0

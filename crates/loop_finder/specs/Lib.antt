@@ -2,6 +2,7 @@ pub mod Counted
 pub mod Further
 pub mod Setting
 pub mod Counting
+pub mod Skipping
 pub mod Beginning
 pub mod Methods
 pub mod Headers

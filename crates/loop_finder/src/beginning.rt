@@ -1,6 +1,6 @@
 //! With what local variables begin in loops, by whichever edge a loop is entered (JVM Specification SE 8, 2.6.1).
 
-ghost use Rattle.std.specs.Prelude.{◌≡◌, ◌↔◌, ℕ, ◌<◌, false, List, [], ◌∷◌, ◌++◌, All, IfOk, IsTrue, OnOk, Some};
+ghost use Rattle.std.specs.Prelude.{◌≡◌, ℕ, ◌<◌, List, [], ◌∷◌, ◌++◌, All, IfOk, OnOk, Some};
 ghost use Rattle.bytecode_model.specs.Program.{Program};
 ghost use Rattle.loop_nest.specs.Digraph.{Edge, sources_of};
 ghost use Rattle.method_flow.specs.Graphs.{IsGraphOf};
@@ -12,52 +12,49 @@ ghost use Rattle.loop_acts.specs.Acts.{AreActs, act_at};
 ghost use Rattle.loop_acts.specs.Rules.{Given, rules_by};
 ghost use Rattle.loop_marks.specs.Marking.{AreMarksOf, AreSized};
 ghost use Rattle.loop_acts.specs.Writing.{AreWriters, IsOnly, IsStoredByAll, IsWriterAt, StoresAt, stored_by};
-ghost use Rattle.loop_finder.specs.Beginning.{AddsBeginnings, AllStore, AreOthersOf, IsBodyOf, IsJoined, IsKnownBy, IsSteppedAt};
+ghost use Rattle.loop_finder.specs.Beginning.{AddsBeginnings, AllStore, IsBodyOf, IsJoined, IsKnownBeginning, IsSteppedAt};
+ghost use Rattle.loop_finder.specs.Skipping.{AreBacksPast};
 
 use crate::body::{Beginning, MethodBody};
 use crate::counting::only_step;
 use base::NoMemory;
-use further_rules::LastWrites;
+use further_rules::{LastWrites, Stops};
 use loop_acts::{Act, act_at, stored_by_all, writer_at, writers};
 use loop_marks::{LoopMarks, Routes};
 use std::alloc::Global;
 
-/// Whether a node is no instruction that writes the local variable.
-fn keeps(acts: &[Act], node: u32, local: u32) -> bool
-    ensures { (result ≡ false) ↔ ((p : ℕ) × IsWriterAt acts.now node local p) }
-{
-    match writer_at(acts, node, local) {
-        Some(_) => false,
-        None => true,
+/// Stops a search at the instructions that write a local variable.
+#[derive(Drop)]
+struct Writers<'a> {
+    acts: &'a [Act],
+    local: u32,
+}
+
+impl Stops for Writers<'_> {
+    ghost stops_at = { λ w x. (p : ℕ) × IsWriterAt w.acts.now x w.local p };
+
+    fn is_stop(&self, node: u32) -> bool {
+        writer_at(self.acts, node, self.local).is_some()
     }
 }
 
-/// So for each of so many nodes.
-fn others(alloc: Global, acts: &[Act], nodes: u32, local: u32) -> Result<Vec<bool>, NoMemory>
-    ensures { IfOk result (λ flags. AreOthersOf acts.now local nodes flags.items) }
-{
-    let mut flags = Vec::with_capacity(alloc, nodes as usize)?;
-    for node in 0..nodes {
-        flags.push(keeps(acts, node, local))?;
-    }
-    Ok(flags)
-}
-
-/// What may have written the local variable last once control has come to a node and passed it.
+/// What may have written the local variable last once control has come to a node and passed it. `backs` has for each node the one to
+/// which the search may skip back from it.
 fn last_at(
     alloc: Global,
     acts: &[Act],
     routes: &Routes,
+    backs: &[u32],
     local: u32,
     node: u32,
 ) -> Result<LastWrites, NoMemory>
-    requires { node < routes.now.nodes }
+    requires within { node < routes.now.nodes }
+    requires backs { AreBacksPast acts.now routes.now backs.now }
     ensures { IfOk result (λ found. (P : Program) (given : Given) (m : ℕ) (u : Node) → IsGraphOf P m routes.now → AreActs P (rules_by P given) m acts.now
         → number_of u ≡ node → IsReached (IsEdge P m) u → AreLastWrites P m local u found) }
 {
     code_lines::laws::lines_follow_one_another();
-    let others = others(alloc, acts, routes.nodes(), local)?;
-    routes.last_writes(alloc, &others, node)
+    routes.last_writes(alloc, backs, &Writers { acts, local }, node)
 }
 
 /// The int that each instruction stores which may have written the local variable last once control has passed a node.
@@ -75,7 +72,7 @@ fn stored_last(
     further_rules::laws::last_writes_are_reached();
     further_rules::laws::last_writes_exist();
     further_rules::laws::pushed_are_one();
-    let last = last_at(alloc, &body.acts, &body.routes, local, node)?;
+    let last = last_at(alloc, &body.acts, &body.routes, &body.backs, local, node)?;
     if last.unwritten {
         return Ok(None);
     }
@@ -121,8 +118,8 @@ fn with_source(
 ) -> Result<SoFar, NoMemory>
     requires { node < body.now.graph.nodes }
     ensures { IfOk result (λ new. (P : Program) (known : Known) (m : ℕ) (us : List ℕ) → IsBodyOf P known m body.now → AreMarksOf body.now.graph marks.now
-        → Edge body.now.graph node marks.now.header → IsKnownBy P known m body.now.graph marks.now.header local us so_far
-        → IsKnownBy P known m body.now.graph marks.now.header local (us ++ node ∷ []) new) }
+        → Edge body.now.graph node marks.now.header → IsKnownBeginning P known m body.now.graph marks.now.header local us so_far
+        → IsKnownBeginning P known m body.now.graph marks.now.header local (us ++ node ∷ []) new) }
 {
     if marks.has(u64::from(node)) {
         return Ok(so_far);
@@ -142,7 +139,7 @@ fn by_sources(
 ) -> Result<SoFar, NoMemory>
     requires { AreSized body.now.graph marks.now }
     ensures { IfOk result (λ so_far. (P : Program) (known : Known) (m : ℕ) → IsBodyOf P known m body.now → AreMarksOf body.now.graph marks.now
-        → IsKnownBy P known m body.now.graph marks.now.header local (sources_of body.now.graph.edges marks.now.header) so_far) }
+        → IsKnownBeginning P known m body.now.graph marks.now.header local (sources_of body.now.graph.edges marks.now.header) so_far) }
 {
     let mut so_far = SoFar::NotEntered;
     for node in body.routes.sources(marks.header()) {

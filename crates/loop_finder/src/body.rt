@@ -24,20 +24,25 @@ pub enum Beginnings {
     Listed(Vec<Beginning>),
 }
 
-/// A method: what its instructions do, by place, its graph, and with what local variables begin in its loops.
+/// A method: what its instructions do, by place, its graph, for each node of this the one to which a search for last writes may skip back
+/// from it, and with what local variables begin in its loops.
 #[derive(Drop)]
 pub struct MethodBody {
     pub acts: Vec<Act>,
     pub routes: Routes,
+    pub backs: Vec<u32>,
     pub begins: Beginnings,
 }
 
 impl Model for MethodBody {
     ghost use Rattle.loop_finder.specs.Counting.{Body};
+    ghost use Rattle.loop_finder.specs.Skipping.{AreBacksPast};
 
     ghost Value = { Body };
 
     ghost view = { λ b. record { acts = b.acts.items; graph = b.routes; begins = b.begins } };
+
+    ghost invariant = { λ b. AreBacksPast b.acts.items b.routes b.backs.items };
 }
 
 /// Whether an entry is for this header and this local variable.

@@ -21,6 +21,7 @@ ghost use Rattle.loop_finder.specs.Headers.{AreHeadersOf, AreMethodHeaders, AreP
 ghost use Rattle.loop_acts.specs.Acts.{AreActs};
 ghost use Rattle.loop_acts.specs.Reading.{AreIntsBy};
 ghost use Rattle.loop_acts.specs.Rules.{Given, further, rules_by};
+ghost use Rattle.loop_finder.specs.Skipping.{AreBacksPast, AreIdleFlags};
 ghost use Rattle.loop_finder.specs.Methods.{AreBoundsBy, AreMethodBounds, IsAppended, IsBoundOfLoop, IsNestBy, with_bound};
 
 use crate::beginning::add_of_loop;
@@ -189,9 +190,50 @@ fn bounds_further(
     let body = MethodBody {
         acts: body.acts,
         routes: body.routes,
+        backs: body.backs,
         begins,
     };
     bounds_of_nest(alloc, &body, nest, nodes)
+}
+
+/// For each of so many nodes whether it is no instruction that writes a local variable.
+fn idle_flags(alloc: Global, acts: &[Act], nodes: u32) -> Result<Vec<bool>, NoMemory>
+    ensures { IfOk result (λ flags. AreIdleFlags acts.now nodes flags.items) }
+{
+    let mut flags = Vec::with_capacity(alloc, nodes as usize)?;
+    for node in 0..nodes {
+        flags.push(is_idle(acts, node))?;
+    }
+    Ok(flags)
+}
+
+/// For each of so many nodes whether a search for last writes may skip past it.
+fn skipped_flags(
+    alloc: Global,
+    ints: &MethodInts<'_>,
+    acts: &[Act],
+    nodes: u32,
+) -> Result<Vec<bool>, NoMemory>
+    ensures { IfOk result (λ flags. AreIdleFlags acts.now nodes flags.items) }
+{
+    match ints {
+        // There are no such searches by the sites alone.
+        MethodInts::OfSites(_) => Ok(vec![in alloc; false; nodes as usize]?),
+        MethodInts::OfTable(_) => idle_flags(alloc, acts, nodes),
+    }
+}
+
+/// For each node the one to which a search for last writes may skip back from it.
+fn backs_past(
+    alloc: Global,
+    ints: &MethodInts<'_>,
+    acts: &[Act],
+    routes: &Routes,
+) -> Result<Vec<u32>, NoMemory>
+    ensures { IfOk result (λ backs. AreBacksPast acts.now routes.now backs.items) }
+{
+    let idle = skipped_flags(alloc, ints, acts, routes.nodes())?;
+    routes.backs(alloc, &idle)
 }
 
 /// What the instructions of a method do, and its graph.
@@ -208,9 +250,11 @@ fn plain_body(
 {
     let acts = acts(alloc, method, ints)?;
     let routes = Routes::new(alloc, graph)?;
+    let backs = backs_past(alloc, ints, &acts, &routes)?;
     Ok(MethodBody {
         acts,
         routes,
+        backs,
         begins: Beginnings::Stored,
     })
 }

@@ -1,18 +1,19 @@
 //! The graph of a method, and how its nodes are found from one another.
 
-ghost use Rattle.std.specs.Prelude.{◌≡◌, ℕ, ◌<◌, false, length, set, All, IfOk};
+ghost use Rattle.std.specs.Prelude.{◌≡◌, ℕ, ◌<◌, Bool, false, List, length, set, All, IfOk};
 ghost use Rattle.loop_nest.specs.Digraph.{IsDigraph, sources_of};
 ghost use Rattle.bytecode_model.specs.Program.{Program};
 ghost use Rattle.method_flow.specs.Graphs.{IsGraphOf};
 ghost use Rattle.method_flow.specs.Nodes.{IsEdge, IsReached, Node, number_of};
-ghost use Rattle.further_rules.specs.Last.{AreLastWrites, AreOthers};
+ghost use Rattle.further_rules.specs.Last.{AreLastWrites, StopsAtWritesAlone};
+ghost use Rattle.further_rules.specs.Search.{AreBacks, AreWithin, IsPassed};
 ghost use Rattle.loop_marks.specs.Reach.{AreReached};
 
 use crate::flags::NodeFlags;
 use crate::reach::reached;
 use base::NoMemory;
 use flow_graph::spans;
-use further_rules::{LastWrites, last_writes};
+use further_rules::{LastWrites, Stops, backs, last_writes};
 use loop_nest::Graph;
 use loop_nest::digraph::Sources;
 use std::alloc::Global;
@@ -68,20 +69,30 @@ impl Routes {
         self.sources.of(node)
     }
 
-    /// What may have written a local variable last once control has come to a node and passed it. `others` has for each node whether it is
-    /// no instruction that writes the variable.
-    pub fn last_writes(
+    /// For each node one to which a search for last writes may skip back from it, past nodes that are flagged as idle.
+    pub fn backs(&self, alloc: Global, idle: &[bool]) -> Result<Vec<u32>, NoMemory>
+        requires { length idle.now ≡ self.now.nodes }
+        ensures { IfOk result (λ backs. AreBacks self.now idle.now backs.items) }
+    {
+        backs(alloc, &self.graph, &self.sources, idle)
+    }
+
+    /// What may have written a local variable last once control has come to a node and passed it. `writes` stops at the instructions that
+    /// write it, and `backs` has for each node the one to which the search skips back from it, past nodes at which it doesn't stop.
+    pub fn last_writes<S: Stops>(
         &self,
         alloc: Global,
-        others: &[bool],
+        backs: &[u32],
+        writes: &S,
         node: u32,
     ) -> Result<LastWrites, NoMemory>
-        requires node { node < self.now.nodes }
-        requires long { length others.now ≡ self.now.nodes }
-        ensures { IfOk result (λ found. (P : Program) (m k : ℕ) (u : Node) → IsGraphOf P m self.now → AreOthers P m k self.now.nodes others.now
+        requires within { node < self.now.nodes }
+        requires backs { AreWithin self.now.nodes backs.now }
+        ensures { IfOk result (λ found. (P : Program) (m k : ℕ) (u : Node) (idle : List Bool) → IsGraphOf P m self.now → AreBacks self.now idle backs.now
+            → IsPassed idle (S.stops_at writes.now) → StopsAtWritesAlone P m k (S.stops_at writes.now)
             → number_of u ≡ node → IsReached (IsEdge P m) u → AreLastWrites P m k u found) }
     {
-        last_writes(alloc, &self.graph, &self.sources, others, node)
+        last_writes(alloc, &self.graph, &self.sources, backs, writes, node)
     }
 
     /// The nodes that a walk from `start` through nodes that are allowed, but for `without`, leads to.

@@ -1,33 +1,35 @@
-use Rattle.std.proofs.Common.{◌≡◌, ℕ, ◌/◌, ◌<◌, false, [], ◌∷◌, sym, ap, ◌∙◌, subst}
+use Rattle.std.proofs.Common.{◌≡◌, ℕ, ◌/◌, Bool, false, List, [], ◌∷◌, sym, ap, ◌∙◌, subst}
+use Rattle.std.proofs.lemmas.Bool.{both_ways}
 use Rattle.std.proofs.lemmas.Result.{IfOk-weaker}
 use Rattle.bytecode_model.specs.Program.{Program}
 use Rattle.method_flow.specs.Graphs.{IsGraphOf}
 use Rattle.method_flow.specs.Nodes.{Node, IsEdge, IsReached, number_of}
-use Rattle.further_rules.specs.Leading.{flag_at}
-use Rattle.further_rules.specs.Last.{AreLastWrites, AreOthers}
-use Rattle.further_rules.proofs.Lasting.{writer_is_last}
+use Rattle.further_rules.specs.Search.{AreBacks, IsPassed}
+use Rattle.further_rules.specs.Last.{AreLastWrites, AreNearest, StopsAtWrites, StopsAtWritesAlone}
+use Rattle.further_rules.proofs.Lasting.{nearest_are_last, stops_at_writes, writer_is_last}
 use Rattle.further_rules.proofs.writes.last_writes.Goals as goal
 
-pub returns-then-others-node : goal.returns-then-others-node
-returns-then-others-node c =
-    let g = c.args.g.now in
-    let others = c.args.others.now in
-    IfOk-weaker c.last_before.result
-    (λ found. (P : Program) (m k : ℕ) (u : Node) → IsGraphOf P m g → AreOthers P m k g.nodes others → number_of u ≡ c.args.node → AreLastWrites P m k u found)
-    (λ found. (P : Program) (m k : ℕ) (u : Node) → IsGraphOf P m g → AreOthers P m k g.nodes others → number_of u ≡ c.args.node → IsReached (IsEdge P m) u → AreLastWrites P m k u found)
-    (λ found h P m k u of ao e come. h P m k u of ao e)
-    c.last_before.ensures
-
-pub returns-else-others-node : goal.returns-else-others-node
-returns-else-others-node c =
-    let g = c.args.g.now in
+pub returns-then-is_stop : goal.returns-then-is_stop
+returns-then-is_stop g c =
+    let gr = c.args.g.now in
     let node = c.args.node in
-    let others = c.args.others.now in
-    let silent : flag_at others node ≡ false = c.if-others-node.false in
+    let Stop = g.S.Stops.stops_at c.args.writes.now in
+    let stop : Stop node = c.is_stop.ensures.0 c.if-is_stop.true in
     IfOk-weaker c.one_write.result
     (λ found. (found.places.items ≡ (node / 2) ∷ []) × (found.unwritten ≡ false))
-    (λ found. (P : Program) (m k : ℕ) (u : Node) → IsGraphOf P m g → AreOthers P m k g.nodes others → number_of u ≡ node → IsReached (IsEdge P m) u → AreLastWrites P m k u found)
-    (λ found h P m k u of ao e come.
-    let within = subst (λ (x : ℕ). x < g.nodes) (sym e) c.requires.within in
-    writer_is_last P m k g.nodes u others ao within (ap (λ (x : ℕ). flag_at others x) e ∙ silent) come found (h.0 ∙ ap (λ (x : ℕ). (x / 2) ∷ []) (sym e)) h.1)
+    (λ found. (P : Program) (m k : ℕ) (u : Node) (idle : List Bool) → IsGraphOf P m gr → AreBacks gr idle c.args.backs.now → IsPassed idle Stop → StopsAtWritesAlone P m k Stop → number_of u ≡ node → IsReached (IsEdge P m) u → AreLastWrites P m k u found)
+    (λ found h P m k u idle of are passed alone e come.
+    writer_is_last P m k u ((alone u).0 (subst Stop (sym e) stop)) come found (h.0 ∙ ap (λ (x : ℕ). (x / 2) ∷ []) (sym e)) h.1)
     c.one_write.ensures
+
+pub returns-else-is_stop : goal.returns-else-is_stop
+returns-else-is_stop g c =
+    let gr = c.args.g.now in
+    let node = c.args.node in
+    let Stop = g.S.Stops.stops_at c.args.writes.now in
+    let go : ¬ Stop node = λ stop. both_ways c.is_stop.result c.if-is_stop.false (c.is_stop.ensures.1 stop) in
+    IfOk-weaker c.nearest.result
+    (λ found. (P : Program) (m k : ℕ) (u : Node) (idle : List Bool) → IsGraphOf P m gr → AreBacks gr idle c.args.backs.now → IsPassed idle Stop → StopsAtWrites P m k Stop → number_of u ≡ node → ¬ Stop node → AreNearest P m k u Stop found)
+    (λ found. (P : Program) (m k : ℕ) (u : Node) (idle : List Bool) → IsGraphOf P m gr → AreBacks gr idle c.args.backs.now → IsPassed idle Stop → StopsAtWritesAlone P m k Stop → number_of u ≡ node → IsReached (IsEdge P m) u → AreLastWrites P m k u found)
+    (λ found h P m k u idle of are passed alone e come. nearest_are_last P m k u Stop alone found (h P m k u idle of are passed (stops_at_writes P m k Stop alone) e go))
+    c.nearest.ensures

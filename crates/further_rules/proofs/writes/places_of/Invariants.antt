@@ -1,6 +1,5 @@
-use Rattle.std.proofs.Common.{◌≡◌, filter, map, take}
-use Rattle.further_rules.specs.Last.{enters, writer_of}
+use Rattle.std.proofs.Common.{◌≡◌, ◌/◌, map, take}
 use Rattle.further_rules.proofs.writes.places_of.Given as goal
 
-abbrev pub invariant-loop-edge : goal.invariant-loop-edge
-invariant-loop-edge l = l.places.items ≡ map writer_of (filter (enters l.others l.flags) (take l.edge-index l.edges))
+abbrev pub invariant-loop-node : goal.invariant-loop-node
+invariant-loop-node l = l.places.items ≡ map (λ x. x / 2) (take l.node-index l.nodes)

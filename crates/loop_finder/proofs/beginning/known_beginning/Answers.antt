@@ -3,7 +3,7 @@ use Rattle.std.proofs.lemmas.Int.{ints}
 use Rattle.loop_nest.specs.Digraph.{sources_of}
 use Rattle.further_rules.specs.Beginning.{BeginsAt}
 use Rattle.loop_finder.specs.declared.beginning.SoFar.{SoFar}
-use Rattle.loop_finder.specs.Beginning.{IsKnownBy}
+use Rattle.loop_finder.specs.Beginning.{IsKnownBeginning}
 use Rattle.loop_acts.specs.Writing.{IsOnly}
 use Rattle.loop_finder.proofs.Sources.{one_begins, none_begins}
 use Rattle.loop_finder.proofs.beginning.known_beginning.Goals as goal
@@ -20,7 +20,7 @@ returns-in-One c P known m of are =
     let head = c.header.ensures in
     let other = c.if-header-eq0.false in
     let nonzero : h ≢ 0 = λ (zero : h ≡ 0). other (head ∙ zero) in
-    let by = subst (λ (x : SoFar). IsKnownBy P known m g h k (sources_of g.edges h) x) c.in-One.is (c.in_ok-value.ensures P known m of are) in
+    let by = subst (λ (x : SoFar). IsKnownBeginning P known m g h k (sources_of g.edges h) x) c.in-One.is (c.in_ok-value.ensures P known m of are) in
     let same : to_z w32 (of_z w32 value) ≡ value = omega (arith, ints) in
     subst (λ (z : ℤ). IsOnly (BeginsAt P known m g h k) (Some z)) (sym same) (one_begins P known m g h k c.last_writes_are_reached.ensures.reached nonzero value by)
 

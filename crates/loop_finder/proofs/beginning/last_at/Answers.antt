@@ -1,15 +1,18 @@
-use Rattle.std.proofs.Common.{ℕ, List, Bool, sym, subst}
 use Rattle.std.proofs.lemmas.Result.{IfOk-weaker}
-use Rattle.loop_finder.specs.Beginning.{AreOthersOf}
 use Rattle.loop_acts.specs.Rules.{rules_by}
-use Rattle.loop_finder.proofs.Others.{others_are}
+use Rattle.loop_finder.proofs.Skipping.{backs_within, none_stops}
+use Rattle.loop_finder.proofs.Stopping.{stops_at_writes}
 use Rattle.loop_finder.proofs.beginning.last_at.Goals as goal
+
+pub last_writes-requires-clause-backs : goal.last_writes-requires-clause-backs
+last_writes-requires-clause-backs c = backs_within c.args.acts.now c.args.routes.now c.args.backs.now c.requires.backs
 
 pub returns : goal.returns
 returns c =
-    let flags = subst (λ (fs : List Bool). AreOthersOf c.args.acts.now c.args.local c.nodes.result fs) (sym c.deref.ensures.value) c.in_ok-others.ensures in
-    let all = subst (λ (n : ℕ). AreOthersOf c.args.acts.now c.args.local n c.deref.result.now) c.nodes.ensures.nodes flags in
+    let acts = c.args.acts.now in
+    let local = c.args.local in
+    let past = c.requires.backs in
     IfOk-weaker c.last_writes.result _ _
-    (λ found h P given m u is are at come.
-    h P m c.args.local u is (others_are P (rules_by P given) m c.args.acts.now c.lines_follow_one_another.ensures.one are c.args.local c.args.routes.now.nodes c.deref.result.now all) at come)
+    (λ found last P given m u is are at come. last P m local u past.idle is past.are (none_stops acts c.args.routes.now c.args.backs.now past local)
+    (stops_at_writes P (rules_by P given) m acts c.lines_follow_one_another.ensures.one are local) at come)
     c.last_writes.ensures
