@@ -8,7 +8,7 @@ use Rattle.bytecode_model.specs.Program.{Program}
 use Rattle.program_tables.specs.Resolved.{resolved, method_name}
 use Rattle.method_flow.specs.Flow.{Coded, Flow, IsFlowOf}
 use Rattle.loop_rules.specs.declared.found.FoundLoop.{FoundLoop}
-use Rattle.loop_rules.specs.Sites.{Sites, AreIntSites, constants_in, int_at}
+use Rattle.loop_rules.specs.Sites.{Sites, AreIntSites, constants_in}
 use Rattle.further_rules.specs.Known.{Known}
 use Rattle.further_rules.specs.Found.{Table, only_constants}
 use Rattle.further_rules.specs.Arrays.{AreApart, AreMethodArrays, AreTables, IsKnownBy}

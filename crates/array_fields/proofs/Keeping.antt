@@ -21,20 +21,6 @@ use Rattle.array_fields.specs.Lengths.{length_kept, AreLengthsKept, AreStaticLen
 use Rattle.array_fields.proofs.Starting.{null_flagged, reference_flagged, no_first_object, some_first_object, not_object}
 use Rattle.array_fields.proofs.Subclassing.{may_put}
 
--- ---- one after another
-
-pub kept_first : (flags : List Bool) (contents : List Content) (i : ℕ) → i < 0 → length_at [] i ≡ length_kept (flag_at flags i) (content_at contents i)
-kept_first flags contents i lt = absurd (omega arith)
-
-pub kept_next : (xs : List (Option ℤ)) (x : Option ℤ) (n : ℕ) (f : ℕ → Option ℤ) → length xs ≡ n → x ≡ f n → ((i : ℕ) → i < n → length_at xs i ≡ f i) → (i : ℕ) → i < n + 1 → length_at (xs ++ x ∷ []) i ≡ f i
-kept_next xs x n f long is h i lt =
-    elim (cases_lt i n) [
-      | inl less ↦ get_or_append_left xs (x ∷ []) None i (let within : i < length xs = omega arith in within) ∙ h i less
-      | inr ge ↦
-          let at : i ≡ n = omega arith in
-          get_or_push xs x None i (long ∙ sym at) ∙ is ∙ ap f (sym at)
-    ]
-
 -- ---- one length
 
 kept_is : (b : Bool) (content : Content) (c : ℤ) → (length_kept b content ≡ Some c) ↔ ((b ≡ true) × (content ≡ Arrays c))

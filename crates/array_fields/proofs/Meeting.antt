@@ -1,13 +1,12 @@
 -- What is put to a field, one put after another.
-use Rattle.std.proofs.Common.{◌≡◌, ◌≢◌, ◌↔◌, ◌⊎◌, ℕ, ◌<◌, ℤ, Bool, true, false, List, [], ◌∷◌, ◌++◌, length, replicate, Option, Some, None, refl, sym, ap, ◌∙◌, subst, inl, inr, arith}
+use Rattle.std.proofs.Common.{◌≡◌, ◌≢◌, ◌↔◌, ◌⊎◌, ℕ, ◌<◌, ℤ, Bool, true, false, List, [], ◌∷◌, ◌++◌, length, Option, Some, None, refl, sym, ap, ◌∙◌, subst, inl, inr, arith}
 use Rattle.std.specs.Prelude.{slice_set, if◌then◌else◌}
 use Rattle.std.specs.Ordering.{int_eq}
 use Rattle.std.proofs.lemmas.Bool.{cases_eq}
 use Rattle.std.proofs.lemmas.Bool.Decides.{Decides-int_eq, not_from_Decides}
-use Rattle.std.proofs.lemmas.List.{get_or-set_other, get_or-set_same, get_or-replicate, length-replicate, length-set}
+use Rattle.std.proofs.lemmas.List.{get_or-set_other, get_or-set_same, length-set}
 use Rattle.std.proofs.lemmas.List.Elements.{Contains-push, Contains-push_cases, Contains-append_left}
 use Rattle.lists.proofs.Lemmas.{none≢some, some_same}
-use Rattle.lists.specs.Members.{nil_contains}
 use Rattle.array_fields.specs.declared.puts.Put.{Put}
 use Rattle.array_fields.specs.declared.contents.Content.{Content}
 use Rattle.array_fields.specs.declared.contents.Content.TheVariants.{Unput, Arrays, Anything}
@@ -23,12 +22,6 @@ tells_same content A B same h = record {
     λ is. let k = (h.arrays n).0 is in ((same (Some n)).0 k.0, λ l b. k.1 l ((same l).1 b)),
     λ k. (h.arrays n).1 ((same (Some n)).1 k.0, λ l a. k.1 l ((same l).0 a)),
   );
-}
-
-pub tells_nothing : (A : Option ℤ → Type 0) → ((l : Option ℤ) → ¬ A l) → Tells Unput A
-tells_nothing A none = record {
-  unput = (λ is. none, λ h. refl);
-  arrays = λ n. (λ is. absurd (let bad : ⊥ = cc in bad), λ k. absurd (none (Some n) k.0));
 }
 
 -- with a put more
@@ -111,14 +104,6 @@ tells_more Anything (Some n) A h = tells_still (Some n) A h
 -- ---- several fields
 
 module _ (target : Put → Option ℕ) (n : ℕ) where
-  pub contents_first : AreContents target n [] (replicate n Unput)
-  contents_first = (
-    length-replicate n Unput,
-    λ i lt.
-        let nothing : Unput ≡ content_at (replicate n Unput) i = sym (get_or-replicate n i Unput Anything lt) in
-        subst (λ (x : Content). Tells x (PutsTo target [] i)) nothing (tells_nothing (PutsTo target [] i) (λ l put. nil_contains put.0 put.1)),
-  )
-
   -- a put that puts elsewhere
   elsewhere : (xs : List Put) (x : Put) (i : ℕ) → ¬ (target x ≡ Some i) → (l : Option ℤ) → PutsTo target xs i l ↔ PutsTo target (xs ++ x ∷ []) i l
   elsewhere xs x i not l = (

@@ -149,12 +149,6 @@ module _ (P : Program) (m p : ℕ) where
       ∙ through f (row_of b.0.code i (P.operand m p)) (p + i.length)
       ∙ tells b.0.code
 
-  pub no_read_at : instr_at P m p ≡ None → None ≡ read_at P m p
-  no_read_at none = sym (none_at read_by none)
-
-  pub no_put_at : instr_at P m p ≡ None → None ≡ put_at P m p
-  no_put_at none = sym (none_at put_by none)
-
   -- where the byte at the place says so, no instruction is one that reads or writes a field
   none_unless : {A : Type 0} (f : Row → Option A) → ((i : Instr) → instr_at P m p ≡ Some i → (code : List ℕ) → onto (row_of code i (P.operand m p)) f ≡ None) → onto (row_in P m p) (λ x. f x.1) ≡ None
   none_unless {A} f none = by_instr (instr_at P m p) refl

@@ -1,7 +1,7 @@
 -- What holds of fields that are known by what instructions put to them.
 use Rattle.std.proofs.Common.{◌≡◌, ℤ, Option, Some, None, refl, sym, ◌∙◌}
 use Rattle.code_lines.specs.Lines.{IsNeverPut}
-use Rattle.array_fields.specs.Laws.{KnownFieldsAreApart, KnownFieldsAreNullFirst}
+use Rattle.array_fields.specs.Laws.{KnownFieldsAreApart}
 
 pub are_apart : KnownFieldsAreApart
 are_apart P constants known is never f n held = none_but (known.constants f) (λ c has. never f c (sym (is.constants_are f) ∙ has))
@@ -11,9 +11,3 @@ are_apart P constants known is never f n held = none_but (known.constants f) (λ
     none_but (Some c) never =
         let all = ((is.statics_are f n).0 held).puts in
         absurd (never c refl all.method all.place all.writes.0 all.writes.1)
-
-pub are_null_first : KnownFieldsAreNullFirst
-are_null_first P constants known is = record {
-  statics = λ f n held. ((is.statics_are f n).0 held).first;
-  fields = λ owner index n p o held at has. absurd (((is.fields_are owner index n).0 held).first p o at has);
-}

@@ -1,12 +1,11 @@
 -- Classes that have a subclass in common.
-use Rattle.std.proofs.Common.{◌≡◌, ◌↔◌, ℕ, zero, suc, ◌+◌, ◌<◌, ◌≤◌, Bool, true, false, eqb, ◌||◌, List, [], ◌∷◌, ◌++◌, length, replicate, inl, inr, Option, Some, None, refl, sym, ap, ◌∙◌, subst, arith}
-use Rattle.std.specs.Prelude.{slice_get, slice_set, nat_lt, if◌then◌else◌}
+use Rattle.std.proofs.Common.{◌≡◌, ◌↔◌, ℕ, zero, suc, ◌+◌, ◌<◌, ◌≤◌, Bool, true, false, eqb, ◌||◌, List, [], ◌∷◌, ◌++◌, length, inl, inr, Option, Some, None, refl, sym, ap, ◌∙◌, subst, arith}
+use Rattle.std.specs.Prelude.{slice_get, nat_lt, if◌then◌else◌}
 use Rattle.std.specs.Option.{option_map_or, option_to_list}
 use Rattle.std.specs.List.{filter_map, flat_map}
-use Rattle.std.proofs.lemmas.Bool.{false≢true, or_cases, or_left, or_right, eqb-true, cases_lt, cases_eq}
+use Rattle.std.proofs.lemmas.Bool.{false≢true, or_cases, or_left, or_right, eqb-true, cases_lt}
 use Rattle.std.proofs.lemmas.Bool.Decides.{nat_tests}
 use Rattle.std.proofs.lemmas.Option.{slice_get_past, slice_get_within}
-use Rattle.std.proofs.lemmas.List.{get_or-replicate, length-replicate, length-set, get_or-set_same, get_or-set_other}
 use Rattle.std.proofs.Math.ListN.{get_or-eq_default}
 use Rattle.lists.specs.Lists.{onto}
 use Rattle.lists.specs.Numbers.{reached, is_among}
@@ -124,16 +123,6 @@ AreSharingBelow P n k owner flags =
     (length flags ≡ n) × ((other : ℕ) → (flag_at flags other ≡ true) ↔ ((other < n) × (class : ℕ) × (class < k) × (P.extends class owner ≡ true) × (P.extends class other ≡ true)))
 
 module _ (P : Program) (n owner : ℕ) where
-  pub sharing_first : AreSharingBelow P n 0 owner (replicate n false)
-  sharing_first = (length-replicate n false, λ other. (λ h. absurd (false≢true (sym (unset other) ∙ h)), λ h. let lt = h.2 in absurd (omega arith)))
-    where
-      unset : (other : ℕ) → flag_at (replicate n false) other ≡ false
-      unset other =
-          elim (cases_lt other n) [
-            | inl lt ↦ get_or-replicate n other false false lt
-            | inr ge ↦ get_or-eq_default (replicate n false) false (let long = length-replicate n false in omega arith)
-          ]
-
   past_unset : (flags : List Bool) (other : ℕ) → flag_at flags other ≡ true → other < length flags
   past_unset flags other h =
       elim (cases_lt other (length flags)) [
@@ -192,38 +181,3 @@ HasMarkedBelow P c k old new =
     (length new ≡ length old)
     × ((other : ℕ) → other < k → other < length old → flag_at new other ≡ (flag_at old other || P.extends c other))
     × ((other : ℕ) → k ≤ other → flag_at new other ≡ flag_at old other)
-
-module _ (P : Program) (c : ℕ) (old : List Bool) where
-  pub marked_first : HasMarkedBelow P c 0 old old
-  marked_first = (refl, λ other lt. absurd (omega arith), λ other le. refl)
-
-  pub marked_more : (k : ℕ) (flags : List Bool) → P.extends c k ≡ true → k < length old → HasMarkedBelow P c k old flags → HasMarkedBelow P c (k + 1) old (slice_set flags k true)
-  marked_more k flags is lt h =
-      let long = h.0 in (
-        length-set flags k true ∙ h.0,
-        λ other below within.
-            elim (cases_eq other k) [
-              | inl same ↦
-                  let inside : k < length flags = omega arith in
-                  ap (flag_at (slice_set flags k true)) same ∙ get_or-set_same flags k true false inside ∙ sym (or_right (flag_at old other) (P.extends c other) (ap (λ (d : ℕ). P.extends c d) same ∙ is))
-              | inr apart ↦ get_or-set_other flags k other true false apart ∙ h.1 other (omega arith) within
-            ],
-        λ other le. get_or-set_other flags k other true false (λ same. omega arith) ∙ h.2 other (omega arith),
-      )
-
-  pub marked_same : (k : ℕ) (flags : List Bool) → P.extends c k ≡ false → HasMarkedBelow P c k old flags → HasMarkedBelow P c (k + 1) old flags
-  marked_same k flags not h = (
-    h.0,
-    λ other below within.
-        elim (cases_lt other k) [
-          | inl lower ↦ h.1 other lower within
-          | inr ge ↦
-              let at : other ≡ k = omega arith in
-              h.2 other ge ∙ sym (or_none (flag_at old other) (P.extends c other) (ap (λ (d : ℕ). P.extends c d) at ∙ not))
-        ],
-    λ other le. h.2 other (omega arith),
-  )
-    where
-      or_none : (a b : Bool) → b ≡ false → (a || b) ≡ a
-      or_none true b e = refl
-      or_none false b e = e

@@ -1,5 +1,5 @@
 -- What is answered of loops that count: lines, or want of memory.
-use Rattle.std.proofs.Common.{◌≡◌, ℕ, true, false, List, sym, subst}
+use Rattle.std.proofs.Common.{ℕ, true, false, List, sym, subst}
 use Rattle.std.specs.Prelude.{Result, Ok, Err, IfOk, Vec}
 use Rattle.std.specs.declared.alloc.Global.{Global}
 use Rattle.base.specs.declared.no_memory.NoMemory.{NoMemory as Lacking}

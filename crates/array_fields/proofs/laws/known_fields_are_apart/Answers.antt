@@ -1,5 +1,5 @@
-use Rattle.array_fields.proofs.Setting.{are_apart, are_null_first}
+use Rattle.array_fields.proofs.Setting.{are_apart}
 use Rattle.array_fields.proofs.laws.known_fields_are_apart.Goals as goal
 
 pub returns : goal.returns
-returns c = record { apart = are_apart; first = are_null_first }
+returns c = record { apart = are_apart }
