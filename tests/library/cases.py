@@ -245,6 +245,99 @@ def lists():
     ]
 
 
+def maps():
+    """cases of maps and sets: what one holds behind a change, in its order"""
+    found = []
+    boxed = "Integer.valueOf($1)"
+    start = "java.util.HashMap<Object, Object> it = MADE; for (int k = 0; k < $0.length; k++) { it.put($0[k], Integer.valueOf(k)); } "
+    made = {"HashMap": "new java.util.HashMap<Object, Object>()", "HashMap(near)": "new java.util.HashMap<Object, Object>(8 * $0.length)"}
+    end = "finally { Seen.put(it.size()); Seen.put(it.keySet().toArray()); Seen.put(it.values().toArray()); } 0"
+    changes = {
+        "put": (["object", "object"], "Seen.put(it.put($1, $2))"), "get": (["object"], "Seen.put(it.get($1)); Seen.put(it.getOrDefault($1, $0))"),
+        "contains": (["object", "near"], "Seen.put(it.containsKey($1)); Seen.put(it.containsValue($1)); Seen.put(it.containsValue(Integer.valueOf($2)))"),
+        "remove": (["object", "object"], "Seen.put(it.remove($1)); Seen.put(it.remove($2)); Seen.put(it.isEmpty())"),
+        "remove(object,object)": (["object", "near"], "Seen.put(it.remove($1, Integer.valueOf($2)))"), "clear": ([], "it.clear(); Seen.put(it.isEmpty())"),
+        "putIfAbsent": (["object", "object"], "Seen.put(it.putIfAbsent($1, null)); Seen.put(it.putIfAbsent($1, $2))"),
+        "replace": (["object", "object"], "Seen.put(it.replace($1, $2))"),
+        "compute": (["object", "object"], "Seen.put(it.compute($1, JOINED)); Seen.put(it.compute($2, JOINED))"),
+        "computeIfAbsent": (["object", "object"], "Seen.put(it.computeIfAbsent($1, OF_KEY)); Seen.put(it.computeIfAbsent($2, OF_KEY))"),
+        "computeIfPresent": (["object", "object"], "Seen.put(it.computeIfPresent($1, JOINED)); Seen.put(it.computeIfPresent($2, JOINED))"),
+        "merge": (["object", "object"], "Seen.put(it.merge($1, $2, JOINED)); Seen.put(it.merge($2, Integer.valueOf(5), JOINED))"),
+        "forEach": ([], "it.forEach(JOINED)"), "hashCode": ([], "Seen.put(jop.Objects.hashCode(it))"), "toText": ([], "Seen.put(jop.Objects.toText(it))"),
+        "equals": (["objects"], "java.util.Map<Object, Object> other = new java.util.HashMap<Object, Object>(it); Seen.put(jop.Objects.equals(it, other)); "
+                   "for (int k = 0; k < $1.length; k++) { other.put($1[k], Integer.valueOf(k)); } Seen.put(jop.Objects.equals(it, other)); "
+                   "Seen.put(other.keySet().toArray()); Seen.put(jop.Objects.equals(it, $0))"),
+        "putAll": (["objects"], "java.util.Map<Object, Object> other = new java.util.HashMap<Object, Object>(); for (int k = 0; k < $1.length; k++) { "
+                   "other.put($1[k], Integer.valueOf(k)); } it.putAll(other); other.putAll(it); Seen.put(other.keySet().toArray())"),
+        "keySet": (["object"], "java.util.Set<Object> all = it.keySet(); Seen.put(all.contains($1)); Seen.put(all.remove($1)); Seen.put(all.size()); "
+                   "Seen.put(jop.Objects.toText(all)); Seen.put(jop.Objects.hashCode(all)); Seen.put(jop.Objects.equals(all, new java.util.HashMap<Object, "
+                   "Object>(it).keySet())); all.clear(); all.add($1)"),
+        "values": (["near"], f"java.util.Collection<Object> all = it.values(); Seen.put(all.contains({boxed})); Seen.put(all.remove({boxed})); "
+                   "Seen.put(jop.Objects.toText(all)); Seen.put(all.isEmpty()); java.util.Iterator<Object> each = all.iterator(); Seen.put(each.next()); "
+                   "each.remove(); Seen.put(it.size()); all.clear(); each.next()"),
+        "entrySet": (["near"], "java.util.Set<java.util.Map.Entry<Object, Object>> all = it.entrySet(); for (java.util.Map.Entry<Object, Object> each : all) "
+                     f"{{ Seen.put(each.getKey()); Seen.put(each.setValue({boxed})); Seen.put(each.getValue()); Seen.put(jop.Objects.toText(each)); "
+                     "Seen.put(jop.Objects.hashCode(each)); Seen.put(all.contains(each)); Seen.put(jop.Objects.equals(each, each)); if (it.size() > 3) { "
+                     "Seen.put(all.remove(each)); } } Seen.put(all.contains($0)); Seen.put(all.remove($0)); all.clear()"),
+        "iterator": ([], "java.util.Iterator<Object> each = it.keySet().iterator(); while (each.hasNext()) { Object key = each.next(); if (key instanceof Integer) "
+                     "{ each.remove(); } } each.next()"),
+    }
+    for name, (kinds, change) in changes.items():
+        for title, construct in made.items():
+            found.append((f"{title}.{name}", ["objects", *kinds], f"{start.replace('MADE', construct)}try {{ {change}; }} {end}"))
+    found.append(("HashMap.<init>(Map), far keys", ["int", "int"], "java.util.HashMap<Integer, Object> it = new java.util.HashMap<Integer, Object>(); "
+        "for (int k = 0; k < 12; k++) { it.put(Integer.valueOf($0 + k * ($1 & 63)), null); } Seen.put(it.keySet().toArray()); "
+        "java.util.HashMap<Integer, Object> other = new java.util.HashMap<Integer, Object>(it); Seen.put(other.keySet().toArray()); "
+        "java.util.HashMap<Integer, Object> small = new java.util.HashMap<Integer, Object>(2); small.put(Integer.valueOf($1), null); small.putAll(it); "
+        "Seen.put(small.keySet().toArray()); new java.util.HashSet<Integer>(it.keySet()).toArray()"))
+    start = "java.util.HashSet<Object> it = new java.util.HashSet<Object>(java.util.Arrays.asList($0)); "
+    end = "finally { Seen.put(it.size()); Seen.put(it.toArray()); } 0"
+    changes = {
+        "add": (["object"], "Seen.put(it.add($1)); Seen.put(it.add($1))"), "remove": (["object"], "Seen.put(it.contains($1)); Seen.put(it.remove($1))"),
+        "addAll": (["objects"], "Seen.put(it.addAll(java.util.Arrays.asList($1)))"), "clear": ([], "Seen.put(it.isEmpty()); it.clear(); Seen.put(it.isEmpty())"),
+        "equals": (["objects"], "Seen.put(jop.Objects.equals(it, new java.util.HashSet<Object>(java.util.Arrays.asList($1)))); Seen.put(jop.Objects.equals(it, "
+                   "new java.util.HashSet<Object>(it))); Seen.put(jop.Objects.hashCode(it)); Seen.put(jop.Objects.toText(it))"),
+        "iterator": ([], "java.util.Iterator<Object> each = it.iterator(); while (each.hasNext()) { if (each.next() instanceof Integer) { each.remove(); } } "
+                     "each.remove()"),
+        "<init>": (["near"], "java.util.HashSet<Object> other = new java.util.HashSet<Object>($1); for (Object each : it) { other.add(each); } "
+                   "Seen.put(other.toArray()); Seen.put(new java.util.HashSet<Object>().size())"),
+    }
+    for name, (kinds, change) in changes.items():
+        found.append((f"HashSet.{name}", ["objects", *kinds], f"{start}try {{ {change}; }} {end}"))
+    own = ("final java.util.ArrayList<Object> in = new java.util.ArrayList<Object>(java.util.Arrays.asList($0)); java.util.CLASS<Object> it = "
+           "new java.util.CLASS<Object>() { public java.util.Iterator<Object> iterator() { return in.iterator(); } public int size() { return in.size(); } }; ")
+    for name in ("AbstractCollection", "AbstractSet"):
+        found.append((f"{name}, own", ["objects", "object"], own.replace("CLASS", name) + "Seen.put(it.contains($1)); Seen.put(it.remove($1)); Seen.put(it.toArray()); "
+                      "Seen.put(it.isEmpty()); Seen.put(jop.Objects.toText(it)); it.clear(); Seen.put(it.size()); Seen.put(it.addAll(in)); it.add($1); 0"))
+    return found
+
+
+def collections():
+    """cases of Collections: what a list holds behind a change"""
+    name = "java.util.Collections"
+    boxed = "Integer[] each = new Integer[$0.length]; for (int k = 0; k < each.length; k++) { each[k] = Integer.valueOf($0[k]); } "
+    made = boxed + "java.util.List<Integer> it = new java.util.ArrayList<Integer>(java.util.Arrays.asList(each)); "
+    shown = " finally { Seen.put(it.toArray()); } 0"
+    return [
+        ("Collections.sort", ["ints"], f"{made}{name}.sort(it); it.toArray()"),
+        ("Collections.sort, by a Comparator", ["ints"], f"{made}{name}.sort(it, {name}.reverseOrder()); it.toArray()"),
+        ("Collections.sort, changed", ["ints"], f"{made}try {{ for (Integer one : it) {{ Seen.put(one); {name}.sort(it); }} }}{shown}"),
+        ("Collections.reverse", ["ints"], f"{made}{name}.reverse(it); it.toArray()"),
+        ("Collections.swap", ["ints", "near", "near"], f"{made}try {{ {name}.swap(it, $1, $2); }}{shown}"),
+        ("Collections.addAll", ["ints", "objects"], f"java.util.List<Object> it = new java.util.ArrayList<Object>(); Seen.put({name}.addAll(it, $1)); "
+            f"Seen.put({name}.addAll(it, \"a\", Integer.valueOf($0.length))); it.toArray()"),
+        ("Collections.max", ["ints"], f"{made}Seen.put({name}.max(it)); {name}.min(it)"),
+        ("Collections.emptyList", ["object"], f"java.util.List<Object> it = {name}.emptyList(); Seen.put(it.size()); Seen.put(it == {name}.EMPTY_LIST); "
+            "it.clear(); Seen.put(it.contains($0)); Seen.put(it.iterator().hasNext()); it.add($0); 0"),
+        ("Collections.singletonList", ["object", "object"], f"java.util.List<Object> it = {name}.singletonList($0); Seen.put(it.toArray()); "
+            "Seen.put(it.indexOf($1)); Seen.put(jop.Objects.equals(it, java.util.Arrays.asList($0))); Seen.put(it.remove($1)); it.set(0, $1); 0"),
+        ("Collections.nCopies", ["near", "object"], f"java.util.List<Object> it = {name}.nCopies($0, $1); Seen.put(it.toArray()); Seen.put(it.get(2)); "
+            "it.remove(0); 0"),
+        ("Collections.reverseOrder", ["int", "int"], f"java.util.Comparator<Integer> it = {name}.reverseOrder(); it.compare(Integer.valueOf($0), "
+            "Integer.valueOf($1))"),
+    ]
+
+
 def random():
     """cases of java.util.Random with a seed"""
     seeded = "java.util.Random it = new java.util.Random($0); "
@@ -402,7 +495,7 @@ PROGRAMS = {
     "Booleans": boxed("Boolean", "boolean", "booleanValue") + static("Boolean", "logicalAnd,logicalOr,logicalXor boolean boolean",
         "parseBoolean string", "parseBoolean digits"),
     "Texts": TEXT_METHODS, "Strings": STRING_METHODS, "Builders": BUILDER_METHODS, "Systems": arraycopy(), "Made": made(), "UtilArrays": arrays(),
-        "Streams": streams(), "DataStreams": data_streams(), "Lists": lists(), "Randoms": random(),
+        "Streams": streams(), "DataStreams": data_streams(), "Lists": lists(), "HashMaps": maps(), "CollectionHelpers": collections(), "Randoms": random(),
     "Raised": raised(), "Enums": enums(), "ObjectMethods": objects(), "Printed": printed(),
 }
 MAKERS.update({"byteChar": ("char", "byteChar"), "bytePoint": ("int", "bytePoint"), "anyChar": ("char", "eachChar"), "anyPoint": ("int", "eachPoint")})

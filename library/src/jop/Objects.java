@@ -13,6 +13,9 @@ public final class Objects {
         if (first instanceof String) {
             return Strings.equals((String) first, other);
         }
+        if (first instanceof CollectionMethods) {
+            return ((CollectionMethods) first).equals(other);
+        }
         check(first);
         return first == other;
     }
@@ -24,6 +27,9 @@ public final class Objects {
         }
         if (object instanceof String) {
             return Strings.hashCode((String) object);
+        }
+        if (object instanceof CollectionMethods) {
+            return ((CollectionMethods) object).hashCode();
         }
         check(object);
         return 1;

@@ -1,7 +1,9 @@
 package jop;
 
+import java.io.Serializable;
+
 /** Chars that can be put together at run time, with the methods of String under their names. */
-public final class Text implements CharSequence, Comparable<Text>, EqualsMethod, HashCodeMethod, ToTextMethod {
+public final class Text implements Serializable, CharSequence, Comparable<Text>, EqualsMethod, HashCodeMethod, ToTextMethod {
     /** The String that it was made of, if any: the chars are then taken from there when they are needed at once. */
     private final String literal;
     private char[] chars;

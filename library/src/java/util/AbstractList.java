@@ -1,12 +1,11 @@
 package java.util;
 
-import jop.EqualsMethod;
-import jop.HashCodeMethod;
+import jop.CollectionMethods;
 import jop.Text;
 import jop.ToTextMethod;
 
 /** What lists have in common, over `get` and `size`; those that change override `set`, `add` and `remove` of a place. */
-public abstract class AbstractList<E> implements List<E>, EqualsMethod, HashCodeMethod, ToTextMethod {
+public abstract class AbstractList<E> implements List<E>, CollectionMethods, ToTextMethod {
     /** How often elements were added or removed. */
     protected int modCount;
 

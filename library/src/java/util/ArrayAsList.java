@@ -20,6 +20,16 @@ final class ArrayAsList<E> extends AbstractList<E> implements RandomAccess {
     }
 
     @Override
+    public Iterator<E> iterator() {
+        return new ListIteration<E>(this) {
+            @Override
+            public void remove() {
+                throw new UnsupportedOperationException();
+            }
+        };
+    }
+
+    @Override
     public E set(int place, E element) {
         E old = elements[place];
         elements[place] = element;

@@ -1,10 +1,12 @@
 package java.util;
 
 /** The elements of a list one after another; a change meanwhile is told. */
-final class ListIteration<E> implements Iterator<E> {
+class ListIteration<E> implements Iterator<E> {
     private final AbstractList<E> list;
-    private final int changes;
+    private int changes;
     private int place;
+    /** The place of the element that `next` gave and that wasn't removed; -1 where there is none. */
+    private int last = -1;
 
     ListIteration(AbstractList<E> list) {
         this.list = list;
@@ -18,14 +20,31 @@ final class ListIteration<E> implements Iterator<E> {
 
     @Override
     public E next() {
-        if (changes != list.modCount) {
-            throw new ConcurrentModificationException();
-        }
+        checkChanges();
         if (place >= list.size()) {
             throw new NoSuchElementException();
         }
         E element = list.get(place);
+        last = place;
         place++;
         return element;
+    }
+
+    @Override
+    public void remove() {
+        if (last < 0) {
+            throw new IllegalStateException();
+        }
+        checkChanges();
+        list.remove(last);
+        place = last;
+        last = -1;
+        changes = list.modCount;
+    }
+
+    private void checkChanges() {
+        if (changes != list.modCount) {
+            throw new ConcurrentModificationException();
+        }
     }
 }

@@ -41,7 +41,7 @@ public class Random implements Serializable {
             return (int) (Longs.multiply(bound, bits) >> 31);
         }
         int value = bits % bound;
-        while (bits - value + (bound - 1) < 0) { //@WCA loop=32
+        while (bits - value + (bound - 1) < 0) { //@WCA loop=32 tries
             bits = next(31);
             value = bits % bound;
         }

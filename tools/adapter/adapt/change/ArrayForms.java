@@ -1,9 +1,12 @@
 package adapt.change;
 
 import adapt.classes.LoadedClass;
+import adapt.classes.LoopBound;
 import adapt.classes.Program;
 import adapt.reach.Reach;
+import java.util.ArrayList;
 import java.util.LinkedHashMap;
+import java.util.List;
 import java.util.Map;
 import org.objectweb.asm.Opcodes;
 import org.objectweb.asm.Type;
@@ -45,6 +48,7 @@ public final class ArrayForms implements Change {
             helpers.put(key, helper);
             reach.addArray(node.desc, node.dims);
         }
+        reach.bound(helper, counts(owner, method, node));
         program.report.replace(Code.place(owner, method, node), "new array of " + node.dims + " dimensions", to.name() + "." + helper.name);
         method.instructions.set(node, Code.invokeStatic(to.name(), helper.name, helper.desc));
     }
@@ -60,23 +64,33 @@ public final class ArrayForms implements Change {
         MethodNode helper = helpers.get(key);
         if (helper == null) {
             helper = Code.addHelper(to, "copyArray", "(" + call.owner + ")" + call.owner);
-            ArrayCode.copy(helper, call.owner, java.util.List.of());
+            ArrayCode.copy(helper, call.owner, List.of());
             MethodNode made = helper;
             reach.atEnd(() -> ArrayCode.copy(made, call.owner, reach.arraysBelow(call.owner)));
             reach.addArray(call.owner, 1);
             helpers.put(key, helper);
-            boundByConstants(helper, call.owner);
         }
+        reach.bound(helper, List.of(length(owner, method, call)));
         program.report.replace(Code.place(owner, method, call), "clone() of an array", to.name() + "." + helper.name);
         method.instructions.set(call, Code.invokeStatic(to.name(), helper.name, helper.desc));
     }
 
-    /** An array of all constants of an enum is as long as they are many. */
-    private void boundByConstants(MethodNode helper, String array) {
-        Type element = Type.getType(array.substring(1));
-        LoadedClass kind = element.getSort() == Type.OBJECT ? program.find(element.getInternalName()) : null;
-        if (kind != null && "java/lang/Enum".equals(kind.node.superName)) {
-            reach.bound(helper, Enumerations.constants(kind));
+    /** Of an array that is copied how long it is at most: in `values` of an enum that of all constants. */
+    private LoopBound length(LoadedClass owner, MethodNode method, MethodInsnNode call) {
+        boolean isOfEnum = "java/lang/Enum".equals(owner.node.superName) && call.owner.equals("[L" + owner.name() + ";");
+        return isOfEnum && method.name.equals("values") && method.desc.equals("()" + call.owner) ? LoopBound.always(Enumerations.constants(owner)) : promised();
+    }
+
+    private LoopBound promised() {
+        return LoopBound.ofElements(program.options.elements(), program.options.elements());
+    }
+
+    /** Of each dimension but the last one how many elements it has at most: where it is a constant that one. */
+    private List<LoopBound> counts(LoadedClass owner, MethodNode method, MultiANewArrayInsnNode node) {
+        List<LoopBound> counts = new ArrayList<>();
+        for (Integer count : Constants.pushed(owner, method, node, node.dims).subList(0, node.dims - 1)) {
+            counts.add(count == null ? promised() : LoopBound.always(Math.max(0, count)));
         }
+        return counts;
     }
 }

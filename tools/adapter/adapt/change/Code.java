@@ -62,7 +62,7 @@ final class Code {
 
     /** The place of an instruction. */
     static Place place(LoadedClass owner, MethodNode method, AbstractInsnNode at) {
-        return Place.of(owner.name(), method.name, at);
+        return Place.of(owner.node, method, at);
     }
 
     /** The class in which a method that helps another class stands: that class, or the one that has an interface's code. */

@@ -1,10 +1,12 @@
 package adapt.change;
 
 import adapt.classes.LoadedClass;
+import adapt.classes.LoopBound;
 import adapt.classes.Program;
 import adapt.classes.TextNeeded;
 import adapt.reach.Reach;
 import java.util.HashMap;
+import java.util.List;
 import java.util.Map;
 import org.objectweb.asm.Label;
 import org.objectweb.asm.Opcodes;
@@ -89,7 +91,7 @@ public final class Enumerations implements Change {
         to.visitJumpInsn(Opcodes.GOTO, test);
         to.visitLabel(end);
         ClassFiles.addThrow(to, "java/lang/IllegalArgumentException");
-        reach.bound(to, constants(kind));
+        reach.bound(to, List.of(LoopBound.always(constants(kind))));
         return to;
     }
 

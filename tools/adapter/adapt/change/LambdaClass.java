@@ -1,6 +1,7 @@
 package adapt.change;
 
 import adapt.classes.CoreClasses;
+import java.lang.invoke.LambdaMetafactory;
 import org.objectweb.asm.MethodVisitor;
 import org.objectweb.asm.Opcodes;
 import org.objectweb.asm.Type;
@@ -141,17 +142,26 @@ final class LambdaClass {
         }
         int flags = (Integer) site.bsmArgs[3];
         int next = 4;
-        if ((flags & 2) != 0) {
+        if ((flags & LambdaMetafactory.FLAG_MARKERS) != 0) {
             int count = (Integer) site.bsmArgs[next++];
             for (int k = 0; k < count; k++) {
-                node.interfaces.add(((Type) site.bsmArgs[next++]).getInternalName());
+                addInterface(((Type) site.bsmArgs[next++]).getInternalName());
             }
         }
-        if ((flags & 4) != 0) {
+        if ((flags & LambdaMetafactory.FLAG_SERIALIZABLE) != 0) {
+            addInterface("java/io/Serializable");
+        }
+        if ((flags & LambdaMetafactory.FLAG_BRIDGES) != 0) {
             int count = (Integer) site.bsmArgs[next++];
             for (int k = 0; k < count; k++) {
                 addBridge(site.name, (Type) site.bsmArgs[next++]);
             }
+        }
+    }
+
+    private void addInterface(String name) {
+        if (!node.interfaces.contains(name)) {
+            node.interfaces.add(name);
         }
     }
 

@@ -9,8 +9,10 @@ final class ObjectInterfaces {
     }
 
     static void add(Program program, LoadedClass to) {
-        add(program, to, "jop/EqualsMethod", "equals", "(Ljava/lang/Object;)Z");
-        add(program, to, "jop/HashCodeMethod", "hashCode", "()I");
+        if (!program.isBelow(to, "jop/CollectionMethods")) {
+            add(program, to, "jop/EqualsMethod", "equals", "(Ljava/lang/Object;)Z");
+            add(program, to, "jop/HashCodeMethod", "hashCode", "()I");
+        }
         add(program, to, "jop/ToTextMethod", "toText", "()Ljop/Text;");
     }
 

@@ -3,6 +3,8 @@ package adapt.classes;
 import java.io.IOException;
 import java.io.InputStream;
 import java.io.UncheckedIOException;
+import java.util.ArrayDeque;
+import java.util.Deque;
 import java.util.List;
 import org.objectweb.asm.ClassReader;
 import org.objectweb.asm.Opcodes;
@@ -13,7 +15,7 @@ import org.objectweb.asm.tree.MethodInsnNode;
 import org.objectweb.asm.tree.InsnNode;
 
 /** Classes of the Java virtual machine on which this runs: what they are called and what they stand below, nothing else of theirs. */
-final class Platform {
+public final class Platform {
     private Platform() {
     }
 
@@ -34,6 +36,29 @@ final class Platform {
             addConstructor(node, from, "(Ljava/lang/String;)V");
         }
         return node;
+    }
+
+    /** The class of the platform that has a method or a field which was found nowhere, where there is one; else the class that was named. */
+    public static String declaring(Program program, String of, String member, String descriptor) {
+        String string = descriptor.replace("L" + TextTypes.TEXT + ";", "L" + CoreClasses.STRING + ";");
+        String name = member.equals("toText") && string.equals("()Ljava/lang/String;") ? "toString" : member;
+        Deque<String> waiting = new ArrayDeque<>(List.of(of.replace(TextTypes.TEXT, CoreClasses.STRING)));
+        while (!waiting.isEmpty()) {
+            String each = waiting.remove();
+            ClassNode node = read(each);
+            boolean isThere = node != null && (node.methods.stream().anyMatch(it -> it.name.equals(name) && it.desc.equals(string))
+                    || node.fields.stream().anyMatch(it -> it.name.equals(name) && it.desc.equals(string)));
+            if (isThere) {
+                return each;
+            }
+            LoadedClass own = node == null ? program.find(each) : null;
+            ClassNode from = own == null ? node : own.node;
+            if (from != null) {
+                waiting.addAll(from.superName == null ? List.of() : List.of(from.superName));
+                waiting.addAll(from.interfaces);
+            }
+        }
+        return of.replace(TextTypes.TEXT, CoreClasses.STRING);
     }
 
     private static ClassNode read(String name) {

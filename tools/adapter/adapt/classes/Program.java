@@ -35,7 +35,7 @@ public final class Program {
         this.options = options;
         this.path = path;
         this.library = library;
-        this.libraryBounds = new LibraryBounds(options.library());
+        this.libraryBounds = new LibraryBounds(options.library(), options.elements());
         this.strings = strings;
         this.isText = strings != Strings.LITERALS;
     }
@@ -74,7 +74,7 @@ public final class Program {
             origin = Origin.PLATFORM;
         }
         if (origin == Origin.LIBRARY) {
-            LibraryDefaults.add(node, isText);
+            LibraryDefaults.add(node, isText, options.elements());
         }
         keep(new LoadedClass(node.name.equals(name) ? node : ClassFiles.renamed(node, name), origin));
     }

@@ -16,6 +16,7 @@ import java.util.Set;
 public final class Order {
     private final Program program;
     private final Reach reach;
+    private final Calls calls;
     private final Uses uses;
     private final Set<LoadedClass> done = new LinkedHashSet<>();
     private final Deque<LoadedClass> open = new ArrayDeque<>();
@@ -24,7 +25,8 @@ public final class Order {
     public Order(Program program, Reach reach) {
         this.program = program;
         this.reach = reach;
-        this.uses = new Uses(program, reach);
+        this.calls = new Calls(program, reach);
+        this.uses = new Uses(program, reach, calls);
     }
 
     /** All classes that are kept and that the linker doesn't bring, in their order; a cycle is noted. */
@@ -34,7 +36,7 @@ public final class Order {
         all.remove(main);
         all.add(0, main);
         all.forEach(this::visit);
-        SideEffects effects = new SideEffects(program);
+        SideEffects effects = new SideEffects(program, calls, main);
         done.stream().filter(each -> each.origin == Origin.PROGRAM && reach.isInitialised(each)).forEach(effects::note);
         return new ArrayList<>(done);
     }

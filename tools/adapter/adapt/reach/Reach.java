@@ -3,7 +3,10 @@ package adapt.reach;
 import adapt.change.Changes;
 import adapt.classes.Found;
 import adapt.classes.LoadedClass;
+import adapt.classes.LoopBound;
+import adapt.classes.Origin;
 import adapt.classes.Program;
+import adapt.report.Place;
 import java.util.ArrayDeque;
 import java.util.ArrayList;
 import java.util.Deque;
@@ -15,6 +18,7 @@ import java.util.Map;
 import java.util.Set;
 import org.objectweb.asm.Opcodes;
 import org.objectweb.asm.Type;
+import org.objectweb.asm.tree.AbstractInsnNode;
 import org.objectweb.asm.tree.FieldNode;
 import org.objectweb.asm.tree.MethodNode;
 
@@ -33,7 +37,9 @@ public final class Reach {
     private final Map<String, Set<String>> calls = new HashMap<>();
     private final Set<String> arrays = new LinkedHashSet<>();
     private final List<Runnable> atEnd = new ArrayList<>();
-    private final Map<MethodNode, Integer> bounds = new LinkedHashMap<>();
+    private final Map<MethodNode, Place> from = new HashMap<>();
+    private Place place;
+    private final Map<MethodNode, List<LoopBound>> bounds = new LinkedHashMap<>();
 
     /** A reach over the classes of a program, of which nothing is reached yet. */
     public Reach(Program program) {
@@ -70,8 +76,19 @@ public final class Reach {
     void method(LoadedClass owner, MethodNode method) {
         name(owner.name());
         if (methods.putIfAbsent(method, owner) == null) {
+            from.put(method, place);
             waiting.add(method);
         }
+    }
+
+    /** An instruction of a method is looked at: the place of the program is its own, or that from which a method of another class was reached. */
+    void at(LoadedClass owner, MethodNode method, AbstractInsnNode node) {
+        place = owner.origin == Origin.PROGRAM ? Place.of(owner.node, method, node) : from.get(method);
+    }
+
+    /** The place of the program from which an instruction was reached; null where there is none. */
+    Place place() {
+        return place;
     }
 
     /** A method is named, and one that stands below it may be run in its place. */
@@ -210,13 +227,18 @@ public final class Reach {
         return found != null && program.isBelow(found, two.substring(1, two.length() - 1));
     }
 
-    /** The one loop of a method is gone round so often at most. */
-    public void bound(MethodNode method, int count) {
-        bounds.put(method, count);
+    /** The loops of a method, in the order of their heads, are gone round so often at most, at one call of it at least. */
+    public void bound(MethodNode method, List<LoopBound> counts) {
+        List<LoopBound> known = bounds.get(method);
+        List<LoopBound> joined = new ArrayList<>();
+        for (int k = 0; k < counts.size(); k++) {
+            joined.add(known == null ? counts.get(k) : known.get(k).or(counts.get(k)));
+        }
+        bounds.put(method, joined);
     }
 
     /** The bounds of loops in methods that were made. */
-    public Map<MethodNode, Integer> bounds() {
+    public Map<MethodNode, List<LoopBound>> bounds() {
         return bounds;
     }
 

@@ -3,6 +3,8 @@ package adapt.reach;
 import adapt.classes.CoreClasses;
 import adapt.classes.Found;
 import adapt.classes.LoadedClass;
+import adapt.classes.Origin;
+import adapt.classes.Platform;
 import adapt.classes.Program;
 import adapt.classes.TextNeeded;
 import adapt.report.Instead;
@@ -24,14 +26,17 @@ import org.objectweb.asm.tree.TypeInsnNode;
 final class References {
     private final Program program;
     private final Reach reach;
+    private final LiteralUse literals;
 
     References(Program program, Reach reach) {
         this.program = program;
         this.reach = reach;
+        this.literals = new LiteralUse(program);
     }
 
     /** Reaches all that a method names. */
     void visit(LoadedClass owner, MethodNode method) {
+        reach.at(owner, method, null);
         nameAll(owner, method, method.desc);
         if ((method.access & Opcodes.ACC_NATIVE) != 0) {
             refuse(owner, method, null, "native method", Instead.NATIVE);
@@ -42,11 +47,13 @@ final class References {
             }
         }
         for (AbstractInsnNode node : method.instructions) {
+            reach.at(owner, method, node);
             visit(owner, method, node);
         }
     }
 
     private void visit(LoadedClass owner, MethodNode method, AbstractInsnNode node) {
+        literals.see(owner, node);
         if (Floats.isFloat(node)) {
             refuse(owner, method, node, "float or double", Instead.FLOAT);
         } else if (node instanceof TypeInsnNode type) {
@@ -105,7 +112,7 @@ final class References {
         boolean isSelected = node.getOpcode() == Opcodes.INVOKEVIRTUAL || node.getOpcode() == Opcodes.INVOKEINTERFACE;
         if (isSelected && (found.member().access & Opcodes.ACC_PRIVATE) == 0) {
             reach.declare(found.owner(), found.member());
-            reach.call(node.owner, node.name, node.desc);
+            reach.call(found.owner().name(), node.name, node.desc);
         } else {
             reach.method(found.owner(), found.member());
         }
@@ -153,10 +160,13 @@ final class References {
         if (!program.isText && isOfString) {
             throw new TextNeeded();
         }
-        refuse(owner, method, at, of.replace("jop/Text", "java/lang/String") + member, Instead.of(of, member));
+        String shown = member.equals(".toText") ? ".toString" : member;
+        String lacking = Platform.declaring(program, of, member.substring(1), descriptor);
+        refuse(owner, method, at, lacking + shown, Instead.of(lacking, shown));
     }
 
     private void refuse(LoadedClass owner, MethodNode method, AbstractInsnNode at, String form, String instead) {
-        program.report.refuse(Place.of(owner.name(), method.name, at), form, instead);
+        boolean isOwn = owner.origin == Origin.PROGRAM || reach.place() == null;
+        program.report.refuse(isOwn ? Place.of(owner.node, method, at) : reach.place(), isOwn ? form : form + " (of " + owner.name() + ")", instead);
     }
 }

@@ -1,5 +1,7 @@
 package adapt.report;
 
+import static java.util.Map.entry;
+
 import java.util.Map;
 
 /** What to write in place of what can't be adapted, in the words of docs/java.md. */
@@ -9,29 +11,50 @@ public final class Instead {
     public static final String LITERAL = "a number that names the kind";
     public static final String DYNAMIC = "a class of one's own";
     public static final String MISSING_CLASS = "its folder or jar file on the class path";
-    private static final Map<String, String> MEMBERS = Map.of(
-            "java/lang/System.out", "`jop.Io.write`",
-            "java/lang/Object.getClass", "`instanceof`, or a method that each class overrides",
-            "java/lang/Object.wait", "one thread; `synchronized` links and has nothing to wait for",
-            "java/lang/Object.notify", "one thread; `synchronized` links and has nothing to wait for",
-            "java/lang/Object.notifyAll", "one thread; `synchronized` links and has nothing to wait for",
-            "java/lang/Object.clone", "a constructor that copies",
-            "java/lang/Object.toString", "a `toString` of the class's own, without `super`");
-    private static final Map<String, String> CLASSES = Map.of(
-            "java/lang/Thread", "one thread; `synchronized` links and has nothing to wait for",
-            "java/lang/Class", "`instanceof`, or a method that each class overrides",
-            "java/lang/reflect", "calls by name of methods that are known when the program is compiled",
-            "java/lang/Float", "int in fixed point",
-            "java/lang/Double", "int in fixed point",
-            "java/lang/Throwable", "a field of one's own exception; `getMessage()` adapts",
-            "java/lang/String", "a loop over `charAt`");
+    private static final String ONE_THREAD = "one thread; `synchronized` links and has nothing to wait for";
+    private static final String FOR = "a `for` loop";
+    private static final String SEARCH = "a loop over `indexOf` and `substring`";
+    private static final String CLOCK = "a count of the program's own; there is no clock";
+    private static final Map<String, String> MEMBERS = Map.ofEntries(
+            entry("java/lang/System.err", "`System.out`"), entry("java/lang/System.exit", "a return from `main`"),
+            entry("java/lang/System.currentTimeMillis", CLOCK), entry("java/lang/System.nanoTime", CLOCK),
+            entry("java/lang/System.lineSeparator", "`\"\\n\"`"), entry("java/lang/System.getProperty", "a constant"),
+            entry("java/io/PrintStream.printf", "`print` and `println`"), entry("java/io/PrintStream.format", "`print` and `println`"),
+            entry("java/lang/String.format", "string `+`"), entry("java/lang/String.join", "a loop over `StringBuilder.append`"),
+            entry("java/lang/String.split", SEARCH), entry("java/lang/String.replaceAll", SEARCH), entry("java/lang/String.replaceFirst", SEARCH),
+            entry("java/lang/String.matches", "a loop over `charAt`"),
+            entry("java/lang/Iterable.forEach", FOR), entry("java/util/ArrayList.forEach", FOR), entry("java/util/Iterator.forEachRemaining", FOR),
+            entry("java/util/Collection.stream", FOR), entry("java/util/Collection.removeIf", "an Iterator and its `remove`"),
+            entry("java/util/ArrayList.removeIf", "an Iterator and its `remove`"),
+            entry("java/util/List.sort", "`Arrays.sort` of an array"), entry("java/util/ArrayList.sort", "`Arrays.sort` of an array"),
+            entry("java/util/Random.nextDouble", "`nextInt`"), entry("java/util/Random.nextFloat", "`nextInt`"),
+            entry("java/util/Random.nextGaussian", "`nextInt`"),
+            entry("java/lang/Object.getClass", "`instanceof`, or a method that each class overrides"),
+            entry("java/lang/Object.wait", ONE_THREAD), entry("java/lang/Object.notify", ONE_THREAD), entry("java/lang/Object.notifyAll", ONE_THREAD),
+            entry("java/lang/Object.clone", "a constructor that copies"),
+            entry("java/lang/Object.toString", "a `toString` of the class's own, without `super`"));
+    /** By how names begin; the first that fits counts. */
+    private static final String[][] CLASSES = {
+        {"java/lang/Thread", ONE_THREAD}, {"java/util/concurrent/", ONE_THREAD},
+        {"java/lang/Class", "`instanceof`, or a method that each class overrides"},
+        {"java/lang/reflect", "calls by name of methods that are known when the program is compiled"},
+        {"java/lang/Float", FLOAT}, {"java/lang/Double", FLOAT}, {"java/math/", "arrays of ints"},
+        {"java/lang/Throwable", "a field of one's own exception; `getMessage()` adapts"},
+        {"java/lang/String", "a loop over `charAt`"},
+        {"java/util/LinkedHashMap", "`HashMap`"}, {"java/util/TreeMap", "`HashMap`, and `Arrays.sort` of its keys"},
+        {"java/util/LinkedHashSet", "`HashSet`"}, {"java/util/TreeSet", "`HashSet`, and `Arrays.sort` of its elements"},
+        {"java/util/LinkedList", "`ArrayList`"}, {"java/util/ArrayDeque", "`ArrayList`"},
+        {"java/util/stream/", FOR}, {"java/util/regex/", "a loop over `charAt`"},
+        {"java/util/Scanner", "`System.in.read()`"}, {"java/io/BufferedReader", "`System.in.read()`"}, {"java/io/Reader", "`System.in.read()`"},
+        {"java/io/File", "`System.in` and `System.out`"}, {"java/nio/file/", "`System.in` and `System.out`"},
+    };
 
     private Instead() {
     }
 
     /** In place of a member of a class that nothing has. */
     public static String of(String owner, String member) {
-        String word = MEMBERS.get(owner.replace("jop/Text", "java/lang/String") + member);
+        String word = MEMBERS.get(owner + member);
         if (word != null) {
             return word;
         }
@@ -39,7 +62,11 @@ public final class Instead {
         if (method != null) {
             return method;
         }
-        return CLASSES.entrySet().stream().filter(entry -> owner.replace("jop/Text", "java/lang/String").startsWith(entry.getKey()))
-                .map(Map.Entry::getValue).findFirst().orElse("an interface, a class or a static method of one's own");
+        for (String[] each : CLASSES) {
+            if (owner.startsWith(each[0])) {
+                return each[1];
+            }
+        }
+        return "an interface, a class or a static method of one's own";
     }
 }

@@ -21,7 +21,7 @@ public final class Report {
     /** A form can't be adapted. */
     public void refuse(Place place, String form, String instead) {
         marks.add(form);
-        refused.add("refused " + place + ": " + form + "; write " + instead);
+        refused.add(place.told(form) + "; write " + instead);
     }
 
     /** A class or members of it were left out. */

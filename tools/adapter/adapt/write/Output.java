@@ -1,5 +1,6 @@
 package adapt.write;
 
+import adapt.classes.LibraryDefaults;
 import adapt.classes.LoadedClass;
 import adapt.classes.Origin;
 import adapt.classes.Program;
@@ -40,6 +41,7 @@ public final class Output {
         List<LoadedClass> ordered = new Order(program, reach).classes(main);
         List<String> files = new ArrayList<>();
         StringBuilder bounds = new StringBuilder();
+        LoopBounds loops = new LoopBounds(program, reach);
         for (LoadedClass each : ordered) {
             ClassNode node = writer.kept(each);
             byte[] bytes = writer.bytes(node);
@@ -47,12 +49,30 @@ public final class Output {
             Files.createDirectories(file.getParent());
             Files.write(file, bytes);
             files.add(each.name() + ".class");
-            bounds.append(new LoopBounds(program, reach).lines(each, bytes));
+            bounds.append(loops.lines(each, bytes));
         }
         Files.write(program.options.folder().resolve("files"), files);
         Files.writeString(program.options.folder().resolve("bounds"), bounds.toString());
+        notePromises(loops.promises());
+        if (reach.named().contains(program.find(LibraryDefaults.CAPACITY))) {
+            program.report.note("maps and sets hold at most " + program.options.elements() + " entries, and raise IllegalStateException beyond them"
+                    + " (--elements N says otherwise); a collection is no key");
+        }
+        String fault = new Linker(program, files).fault(main.name());
         tell(ordered);
+        if (fault != null) {
+            System.err.println("adapt: " + fault);
+            return 1;
+        }
         return 0;
+    }
+
+    /** What the reader of a bound has to see to. */
+    private void notePromises(int count) {
+        if (count > 0) {
+            program.report.note(count + (count == 1 ? " line" : " lines") + " of bounds by promise: arrays of at most " + program.options.elements()
+                    + " elements, texts of as many chars (--elements N says otherwise); `# promise` stands before each");
+        }
     }
 
     private void tell(List<LoadedClass> ordered) {
