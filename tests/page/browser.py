@@ -38,6 +38,13 @@ for (const link of document.querySelectorAll('a[href^="#"]')) {
   const target = document.getElementById(link.getAttribute('href').slice(1));
   if (!target || target.getBoundingClientRect().height === 0) faults.push(`${link.outerHTML} leads nowhere`);
 }
+for (const text of document.querySelectorAll('svg.plot text')) {
+  const inner = text.getBoundingClientRect(), outer = text.closest('svg').getBoundingClientRect();
+  if (inner.left < outer.left || inner.right > outer.right) faults.push(`${text.textContent} is cut`);
+}
+for (const table of document.querySelectorAll('table')) {
+  if (table.getBoundingClientRect().right > document.body.getBoundingClientRect().right) faults.push(`a table is ${table.offsetWidth} pixels wide`);
+}
 if (document.documentElement.scrollWidth > 1200) faults.push(`the page is ${document.documentElement.scrollWidth} pixels wide`);
 const result = document.createElement('pre');
 result.id = 'result';

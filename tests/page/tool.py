@@ -8,9 +8,10 @@ from html.parser import HTMLParser
 
 TOP = os.path.dirname(os.path.dirname(os.path.dirname(os.path.realpath(__file__))))
 CONTROLLER = f"{TOP}/examples/controller"
+HERE = f"{TOP}/tests/page"
 # What is shown of figures that are no numbers.
 WORDS = {"never ends", "none", "·"}
-EMPTY = {"area", "base", "br", "col", "hr", "img", "input", "link", "meta"}
+EMPTY = {"wbr", "area", "base", "br", "col", "hr", "img", "input", "link", "meta"}
 
 
 class Made:
@@ -21,7 +22,13 @@ class Made:
         given = words if "--check" in words else ("--out", out, *words)
         ran = subprocess.run([f"{TOP}/tools/wcet", "--jop", jop, *given], cwd=folder, capture_output=True, text=True, check=False)
         self.status, self.said = ran.returncode, ran.stdout.strip()
-        self.told = ran.stderr.splitlines()
+        if self.said.endswith("/unfinished/wcet.html"):
+            self.out += "/unfinished"
+        self.told = lines_of(ran.stderr)
+
+    def heads(self):
+        """the lines that tell, without those of the source and of what to do"""
+        return [line for line in self.told if re.match(r"\S.*: (error|warning|remark): |\d+ (error|warning)|wcet: ", line)]
 
     def text(self, name):
         with open(os.path.join(self.out, name), encoding="utf-8") as file:
@@ -36,17 +43,22 @@ class Made:
     def said_anew(self, command):
         """the lines that a command of the record puts, or those of a file of the folder"""
         if not command.startswith(("jop ", "tools/")):
-            return self.text(command).splitlines()
+            return lines_of(self.text(command))
         words = shlex.split(command)
         if ">" in words:
             words = words[:words.index(">")]
         given = words[words.index("<") + 1] if "<" in words else os.devnull
         words = words[:words.index("<")] if "<" in words else words
-        here = self.folder if words[1] == "link" else self.out
-        with open(os.path.join(here, given), "rb") as source:
-            ran = subprocess.run([self.jop if words[0] == "jop" else f"{TOP}/{words[0]}", *words[1:]], cwd=here, stdin=source, capture_output=True, check=False)
+        with open(os.path.join(self.out, given), "rb") as source:
+            ran = subprocess.run([self.jop if words[0] == "jop" else f"{TOP}/{words[0]}", *words[1:]], cwd=self.out, stdin=source, capture_output=True, check=False)
         out = b"" if words[1] == "link" else ran.stdout
-        return (out + ran.stderr).decode("utf-8", "replace").splitlines()
+        return lines_of((out + ran.stderr).decode("utf-8", "replace"))
+
+
+def lines_of(text):
+    """the lines of a text, which end at line feeds alone"""
+    lines = text.split("\n")
+    return lines if lines[-1] else lines[:-1]
 
 
 class Page(HTMLParser):
@@ -113,7 +125,7 @@ def figure_faults(made, figures):
         known = lines[command]
         if line not in known and not any(each.startswith(line + " ") for each in known if command.endswith(".cert")):
             faults.append(f"`{command}` doesn't put `{line}`")
-        elif value not in re.split(r"[ =]", line.replace("loop<=", "=")):
+        elif value not in re.split(r"[ =]", re.sub("(loop|length)<=", "=", line)):
             faults.append(f"{value} doesn't stand in `{line}`")
     return faults
 

@@ -7,6 +7,7 @@ from .conditions import check
 from .costs import Timing
 from .image_words import word
 from .images import BadImage, BareImage, read_image
+from .names import named
 from .program import Priced, Program, words_of
 from .texts import read_bounds, read_certificate
 
@@ -97,6 +98,14 @@ def program_of(main, files):
         raise NotLinked from fault
 
 
+def main_class(word):
+    """the bytes of the name of the class that is told by `--main`, in which a point is a slash"""
+    name = named(word)
+    if name is None:
+        raise NotLinked
+    return name.replace(b'.', b'/')
+
+
 def compare(program, kept):
     """compares the words of an image with those of its class files"""
     linked = [word(each) for _, region in program.image.regions() for each in region]
@@ -179,7 +188,7 @@ def answered(asked):
     if main is None:
         line = check_image(files[0], asked.timing(), bounds, certificate)
     else:
-        line = check_program(program_of(main.replace('.', '/'), files), asked.timing(), bounds, certificate)
+        line = check_program(program_of(main_class(main), files), asked.timing(), bounds, certificate)
     if not line.startswith('holds '):
         raise Answered(line)
     name = line.split(' ')[1]

@@ -5,6 +5,7 @@ from .costs import COSTS
 from .graphs import pairs_of
 from .hierarchy import ABSTRACT
 from .image_words import Image
+from .names import written
 
 VIRTUAL, SPECIAL, STATIC_CALL, INTERFACE_CALL = 182, 183, 184, 185
 CALLS = {VIRTUAL, SPECIAL, STATIC_CALL, INTERFACE_CALL}
@@ -29,7 +30,7 @@ class Program:
     def name(self, method):
         found = self.image.method(method)
         name = self.classes[method[0]].name + b'.' + found['name'] + found['descriptor']
-        return name.decode('utf-8', 'surrogateescape')
+        return written(name)
 
     def body(self, n):
         return self.image.method(self.coded[n])['code']

@@ -2,15 +2,27 @@
 import re
 
 NUMBER = "(0|[1-9][0-9]*)"
-REMARK = re.compile(rf"# (\S+):{NUMBER}")
-LOOP = re.compile(rf"(# )?(\S+) {NUMBER} loop<=({NUMBER[1:-1]})?")
-IRREDUCIBLE = re.compile(r"# (\S+) irreducible((?: \d+r?)+)")
+# A name is a word of a line: what lies between single spaces (rechecker/names.py).
+NAME = "([^ \n]+)"
+REMARK = re.compile(rf"# {NAME}:{NUMBER}")
+LOOP = re.compile(rf"(# )?{NAME} {NUMBER} loop<=({NUMBER[1:-1]})?")
+IRREDUCIBLE = re.compile(rf"# {NAME} irreducible((?: \d+r?)+)")
 UNNAMED = re.compile(rf"# method={NUMBER} unnamed")
-PROFILE = re.compile(rf"(.*) count={NUMBER} greatest={NUMBER} total={NUMBER} misses={NUMBER} bound=(\w+)")
-REPORT = re.compile(rf"(.*) visits={NUMBER} cycles={NUMBER} share={NUMBER}%")
+PROFILE = re.compile(rf"{NAME} count={NUMBER} greatest={NUMBER} total={NUMBER} misses={NUMBER} bound=(\w+)")
+REPORT = re.compile(rf"([^\n]*) visits={NUMBER} cycles={NUMBER} share={NUMBER}%")
 PART = re.compile(rf"(loads|invoke|return) cycles={NUMBER} share={NUMBER}%")
-SHAPE = re.compile(rf"blocks={NUMBER} block-words={NUMBER} bound=(\S+)")
+SHAPE = re.compile(rf"blocks={NUMBER} block-words={NUMBER} bound=([^ \n]+)")
 PAIR = re.compile(r"([a-z]+)=(\d+)")
+
+
+def text_of(data):
+    return data.decode("utf-8", "surrogateescape")
+
+
+def lines_of(data):
+    """the lines of bytes, which end at line feeds alone: a name may hold what else ends lines"""
+    lines = text_of(data).split("\n")
+    return lines if lines[-1] else lines[:-1]
 
 
 def figure(value, line, command):

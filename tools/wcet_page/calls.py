@@ -8,6 +8,7 @@ from contextlib import contextmanager
 
 from rechecker import command as rechecker
 
+from .answers import lines_of, text_of
 from .words import MACHINE, RUN
 
 # The options that each command takes; those of a call of all shapes are without a shape.
@@ -24,11 +25,7 @@ class Answer:
         self.command, self.status, self.out, self.line = command, status, out, line
 
     def lines(self):
-        return text_of(self.out).splitlines()
-
-
-def text_of(data):
-    return data.decode("utf-8", "surrogateescape")
+        return lines_of(self.out)
 
 
 class Jop:

@@ -2,15 +2,17 @@
 import json
 import os
 import sys
+import tempfile
 
+from . import checking, differences, sarif
 from .calls import Jop, step
-from .messages import ERROR, Messages
+from .classes import digest
+from .folder import PAGE, RECORD, UNFINISHED, Folder, finish, put, require_own
+from .messages import ERROR, Messages, relative
 from .page import page
-from .record import differences
-from .study import FORM, Study
+from .study import Study
 from .words import Asked, WrongWords
 
-RECORD, PAGE = "wcet.json", "wcet.html"
 FINE, LACKS, WRONG, MISSING = 0, 1, 2, 3
 
 
@@ -18,76 +20,69 @@ def answer(words):
     """the status of a call"""
     try:
         asked = Asked(words)
+        if asked.jop is None:
+            print("wcet: jop not found: build it (README.md), put it on the path, or name it by --jop", file=sys.stderr)
+            return MISSING
+        return make(asked) if asked.check is None else check(asked)
     except WrongWords as fault:
         print(f"wcet: {fault}; tools/wcet --help says how it is used", file=sys.stderr)
-        return WRONG
-    if asked.jop is None:
-        print("wcet: jop not found: build it (README.md), put it on the path, or name it by --jop", file=sys.stderr)
-        return MISSING
-    told = Messages()
-    try:
-        os.makedirs(asked.out, exist_ok=True)
-        record, sources = checked(asked, told) if asked.check else made(asked, told)
-    except WrongWords as fault:
-        print(f"wcet: {fault}", file=sys.stderr)
-        return WRONG
     except OSError as fault:
         print(f"wcet: {fault.filename}: {fault.strerror}", file=sys.stderr)
-        return WRONG
-    with step("drawing the page"):
-        write(asked.out, PAGE, page(record, sources))
+    return WRONG
+
+
+def make(asked):
+    """makes a folder; where something lacks, what was made stays unfinished"""
+    require_own(asked.out)
+    folder = Folder(os.path.join(asked.out, UNFINISHED))
+    told = Messages(lambda place: relative(folder.paths.get(place, place)))
+    record = drawn(asked, folder, told)
+    say(asked, told)
+    if record["status"] == FINE:
+        finish(asked.out)
+    print(f"{counted(record)}: {os.path.join(asked.out if record['status'] == FINE else folder.path, PAGE)}")
+    return record["status"]
+
+
+def check(asked):
+    """makes all of a folder anew, of the files that were handed in, and tells what differs"""
+    kept = checking.read_record(asked.check)
+    told = Messages(lambda place: os.path.join(asked.check, place))
+    again = checking.asked_again(asked, kept, told)
+    if asked.out is not None:
+        require_own(asked.out)
+    with tempfile.TemporaryDirectory(prefix="jop-wcet-") as room:
+        folder = Folder(asked.out or os.path.join(room, "again"))
+        record = drawn(again, folder, told, kept)
+        differences.tell(asked.check, folder.path, kept, record, told)
+    say(asked, told)
+    status = LACKS if told.count(ERROR) else record["status"]
+    print(f"{asked.check} {'differs' if status else 'holds'}: {counted(record)}")
+    return status
+
+
+def say(asked, told):
     told.put()
-    return closing(record, asked.out)
+    if asked.sarif:
+        with open(asked.sarif, "w", encoding="utf-8") as file:
+            file.write(sarif.text(told))
 
 
-def write(folder, name, text):
-    with open(os.path.join(folder, name), "w", encoding="utf-8", errors="replace") as file:
-        file.write(text)
-
-
-def whole(record, told):
-    """the record with what is told, and its status"""
+def drawn(asked, folder, told, kept=None):
+    """makes record and page; beside a record that is kept, with the programs that this one names"""
+    study = Study(asked, Jop(asked.jop, folder.path, asked.options), told, folder)
+    record = study.run()
+    tell_broken(record, study)
+    if kept is not None:
+        checking.tell_programs(kept, record, told)
     missed = [each["method"] for each in record.get("methods", []) if each["asked"] and not each["checked"]]
-    record["messages"] = told.sorted()
-    record["status"] = LACKS if missed or told.count(ERROR) or "methods" not in record else FINE
+    record["messages"] = [each for each in told.sorted() if each["rule"] not in checking.RULES]
+    record["status"] = LACKS if missed or "methods" not in record or any(each["kind"] == ERROR for each in record["messages"]) else FINE
+    text = json.dumps(record, indent=1) + "\n"
+    put(folder.path, RECORD, text.encode())
+    with step("drawing the page"):
+        put(folder.path, PAGE, page(record, study.sources, digest(text.encode())).encode("utf-8", "replace"))
     return record
-
-
-def made(asked, told):
-    """a record that is made, which is written, and the sources"""
-    study = Study(asked, Jop(asked.jop, asked.out, asked.options), told)
-    record = study.run()
-    record["asked"] = {"sources": asked.sources, "inputs": asked.inputs, "methods": asked.methods}
-    tell_broken(record, study)
-    whole(record, told)
-    write(asked.out, RECORD, json.dumps(record, indent=1) + "\n")
-    return record, getattr(study, "sources", {})
-
-
-def checked(asked, told):
-    """what the files of a folder say now, beside its record"""
-    kept = read_record(os.path.join(asked.out, RECORD))
-    asked.main, asked.options = kept["main"], kept["options"]
-    asked.sources, asked.inputs, asked.methods = (kept["asked"][name] for name in ("sources", "inputs", "methods"))
-    asked.inputs = [path for path in asked.inputs if os.path.isfile(path)]
-    study = Study(asked, Jop(asked.jop, asked.out, asked.options), told, kept)
-    record = study.run()
-    record["asked"] = kept["asked"]
-    tell_broken(record, study)
-    differences(kept, record, asked.out, told)
-    return whole(record, told), getattr(study, "sources", {})
-
-
-def read_record(path):
-    """the record of a file"""
-    with open(path, encoding="utf-8") as file:
-        try:
-            kept = json.load(file)
-        except ValueError:
-            kept = None
-    if not isinstance(kept, dict) or kept.get("form") != FORM or "methods" not in kept:
-        raise WrongWords(f"{path}: no record of a program that was bounded")
-    return kept
 
 
 def tell_broken(record, study):
@@ -98,19 +93,16 @@ def tell_broken(record, study):
             if bound and each["turns"] > bound["value"]:
                 at = study.shown((loop["file"], loop["line"]) if loop["file"] else None)
                 text = f"with {each['input']} the loop goes round {each['turns']} times, more than its bound {bound['value']}"
-                study.told.error(f"{text} ({loop['method']} {loop['place']})", *at)
+                study.told.error("broken", f"{text} ({loop['method']} {loop['place']})", *at, "@|\\b(for|while|do)\\b", "raise the bound, or keep it")
     for method in record.get("methods", []):
         for each in method["seen"]:
             if isinstance(method["bound"]["value"], int) and each["greatest"]["value"] > method["bound"]["value"]:
                 at = study.shown((method["file"], method["line"]) if method["file"] else None)
                 text = f"with {each['input']} a call took {each['greatest']['value']} cycles, more than the bound"
-                study.told.error(f"{text} ({method['method']})", *at)
+                study.told.error("broken", f"{text} ({method['method']})", *at)
 
 
-def closing(record, folder):
-    """the last line on standard output, and the status"""
+def counted(record):
+    """how many of the methods that are asked for are bounded"""
     asked = [each for each in record.get("methods", []) if each["asked"]]
-    held = sum(each["checked"] for each in asked)
-    print(f"{held} of {len(asked)} methods have a bound that was checked twice: {os.path.join(folder, PAGE)}")
-    return record["status"]
-
+    return f"{sum(each['checked'] for each in asked)} of {len(asked)} methods have a bound that was checked twice"

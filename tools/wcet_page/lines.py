@@ -3,8 +3,11 @@
 Which loops there are, and of which lines, `jop headers` says; here stands what it doesn't: the lines of calls, and the nodes
 of loops, by which runs are watched.
 """
+from functools import lru_cache
+
 from rechecker.graphs import Graph
 from rechecker.images import LinkedImage
+from rechecker.names import written
 from rechecker.program import Program
 
 
@@ -31,18 +34,13 @@ class Methods:
         return self.program.classes[self.program.first_own:-1]
 
     def table(self, m):
-        """where lines start in the code of a method, in the order of its tables: places and lines"""
-        left = self.program.body(m).get("attributes", b"")
-        tables = [data for name, data in attributes_of(left, self.class_of(m).pool) if name == b"LineNumberTable"]
-        return [start for data in tables for start in starts_of(data)]
+        return table_of(self.program.body(m), self.class_of(m))
 
     def file(self, m):
         return source_file(self.class_of(m))
 
     def line(self, m, place):
-        """the line of a place: that of the nearest start in front of it, or at it"""
-        starts = [(start, order, line) for order, (start, line) in enumerate(self.tables[m]) if start <= place]
-        return max(starts)[2] if starts else None
+        return line_in(self.tables[m], place)
 
     def at(self, m, place=0):
         """the file and the line of a place, none where the class file doesn't tell them"""
@@ -58,11 +56,37 @@ class Methods:
 
     def loops(self, m, headers):
         """the nodes of the loops with these headers, by header: all from which a back edge is reached without the header"""
-        graph = Graph(self.program.body(m))
-        before = {}
+        graph, before = self.graph(m)
+        return {place: members((place, False), graph, before) for place in headers if (place, False) in graph.after}
+
+    def back(self, m, header, nodes):
+        """the nodes of a loop from which an edge goes back to its header"""
+        return [node for node in self.graph(m)[1].get((header, False), []) if node in nodes]
+
+    @lru_cache(None)
+    def graph(self, m):
+        """the graph of a method, and from where its edges come, by node"""
+        graph, before = Graph(self.program.body(m)), {}
         for u, v in graph.edges:
             before.setdefault(v, []).append(u)
-        return {place: members((place, False), graph, before) for place in headers if (place, False) in graph.after}
+        return graph, before
+
+
+def table_of(body, c):
+    """where lines start in the code of a method of a class, in the order of its tables: places and lines"""
+    tables = [data for name, data in attributes_of(body.get("attributes", b"\0\0"), c.pool) if name == b"LineNumberTable"]
+    return [start for data in tables for start in starts_of(data)]
+
+
+def line_in(table, place):
+    """the line of a place: that of the nearest start in front of it, or at it"""
+    starts = [(start, order, line) for order, (start, line) in enumerate(table) if start <= place]
+    return max(starts)[2] if starts else None
+
+
+def line_at(method, c, place):
+    """the line of a place of a method of a class that isn't linked"""
+    return line_in(table_of(method["code"], c), place)
 
 
 def members(header, graph, before):
@@ -106,4 +130,4 @@ def source_file(c):
     entry = c.pool[int.from_bytes(data, "big")] if len(data) == 2 and int.from_bytes(data, "big") < len(c.pool) else None
     if entry is None or entry[0] != 1:
         return None
-    return (c.name[:c.name.rfind(b"/") + 1] + entry[1]).decode("utf-8", "surrogateescape")
+    return written(c.name[:c.name.rfind(b"/") + 1] + entry[1])

@@ -1,5 +1,4 @@
 """The methods of a program: their bounds, certificates, reports, and why one has no bound. Not proved: a tool."""
-import os
 import re
 
 from rechecker.texts import read_certificate
@@ -7,8 +6,12 @@ from rechecker.texts import read_certificate
 from . import answers
 from .answers import figure
 from .classes import digest
+from .folder import CERTIFICATES, put
+from .words import nearest
 
-IMAGE, BOUNDS, FOLDER = "wcet.jopi", "wcet.bounds", "certificates"
+IMAGE, BOUNDS = "wcet.jopi", "wcet.bounds"
+# The word with which a loop begins.
+LOOP = r"\b(for|while|do)\b"
 
 
 class Bounded:
@@ -25,27 +28,25 @@ class Bounded:
         self.within = set(self.program.within(self.asked))
         self.shown = sorted(m for m in self.within if self.methods.is_own(m))
         self.causes = {}
-        if not study.kept:
-            os.makedirs(os.path.join(study.folder, FOLDER), exist_ok=True)
-            clear(os.path.join(study.folder, FOLDER))
 
     def tell_refusal(self, answer):
         """tells why nothing is bounded: at the method whose code doesn't fit the cache, where it is that"""
         long = re.fullmatch(r"method too long (\S+) .*", answer.line)
         m = self.methods.number.get(long[1]) if long else None
-        self.told.error(f"{answer.command}: {answer.line}", *self.study.shown(None if m is None else self.methods.at(m)))
+        self.told.error("refused", f"{answer.command}: {answer.line}", *self.study.shown(None if m is None else self.methods.at(m)))
 
     def those_asked(self):
-        """the methods that are asked for: those that are named, else those of the class files that may run"""
+        """the methods that are asked for: those that are named, else those of the class files that may run; and those that have deadlines"""
+        due = [self.methods.number[each.method] for each in self.study.deadlines.rows if each.method in self.said]
         if not self.study.asked.methods:
-            return [m for m in self.program.within([self.methods.boot]) if self.methods.is_own(m)]
+            return sorted({*due, *(m for m in self.program.within([self.methods.boot]) if self.methods.is_own(m))})
         found = []
         for name in self.study.asked.methods:
             if name in self.said:
                 found.append(self.methods.number[name])
             else:
-                self.told.error(f"no method {name}")
-        return found
+                self.told.error("method", f"no method {name}{nearest(name, list(self.said))}")
+        return found + [m for m in due if m not in found]
 
     def listed(self):
         """all methods but the one that starts the program: those of the class files first"""
@@ -79,17 +80,10 @@ class Bounded:
 
     def certify(self, found):
         """a certificate, what both checkers say of it, and where its number comes from"""
-        name, path = found["method"], f"{FOLDER}/{found['number']}.cert"
+        name, path = found["method"], f"{CERTIFICATES}/{found['number']}.cert"
         made = self.jop.call("bound", "--method", name, IMAGE, BOUNDS)
-        file = os.path.join(self.study.folder, path)
-        if not self.study.kept:
-            with open(file, "wb") as put:
-                put.write(made.out)
-        elif not os.path.isfile(file):
-            self.told.error(f"{path}: not found")
-            return
-        with open(file, "rb") as kept:
-            text = kept.read()
+        put(self.study.folder, path, made.out)
+        text = made.out
         found["certificate"] = {"path": path, "sha256": digest(text), "command": f"{made.command} > {path}", "line": last_line(text)}
         checks = [self.jop.call("check", IMAGE, BOUNDS, path), self.jop.recheck(IMAGE, BOUNDS, path)]
         found["checks"] = [{"command": each.command, "line": each.line} for each in checks]
@@ -104,12 +98,12 @@ class Bounded:
         for each in checks:
             if each.line != wanted:
                 at = self.study.shown((found["file"], found["line"]) if found["file"] else None)
-                self.told.error(f"{each.command}: `{each.line}`, not `{wanted}`", *at)
+                self.told.error("certificate", f"{each.command}: `{each.line}`, not `{wanted}`", *at)
 
     def report(self, name):
         answer = self.jop.call("report", "--method", name, IMAGE, BOUNDS)
         if answer.status:
-            self.told.error(f"{answer.command}: {answer.line}")
+            self.told.error("refused", f"{answer.command}: {answer.line}")
         return {"command": answer.command, **answers.report(answer)}
 
     # ---- what lacks
@@ -118,19 +112,23 @@ class Bounded:
         """tells why methods have no bound"""
         for loop in self.study.premises.headers.loops:
             if loop.key() not in self.study.premises.bounds:
-                self.tell_of(self.methods.number[loop.method], loop.place, f"loop without a bound ({loop.method} {loop.place})")
+                how = "`// @WCA loop=N`" if loop.at else f"in a file of --bounds, `{loop.method} {loop.place} loop<=N`"
+                cure = f"say how often it goes round at most: {how}"
+                self.tell_of("loop", self.methods.number[loop.method], loop.place, f"loop without a bound ({loop.method} {loop.place})", LOOP, cure)
         for name, nodes in self.study.premises.headers.irreducible:
-            self.tell_of(self.methods.number[name], int(nodes[0].rstrip("r")), f"loop with several entries ({' '.join([name, *nodes])})")
+            text = f"loop with several entries ({' '.join([name, *nodes])})"
+            self.tell_of("irreducible", self.methods.number[name], int(nodes[0].rstrip("r")), text, None, "let no jump lead into the loop")
         for m in self.study.premises.headers.unnamed:
-            self.tell_of(m, 0, f"no line can bound the loops of method {m}: its name holds a space or begins with #")
+            self.tell_of("name", m, 0, f"no line can bound the loops of method {m}: its name holds a space or begins with #", None, "give it another name")
         self.tell_rings()
         for m in self.shown:
             if self.said[self.methods.names[m]][1].startswith("too large"):
-                self.tell_of(m, 0, f"its number passes 64 bits ({self.methods.names[m]})")
+                text = f"its number passes 64 bits ({self.methods.names[m]})"
+                self.tell_of("too-large", m, 0, text, None, "the bounds of its loops within one another are too great")
 
-    def tell_of(self, m, place, text):
+    def tell_of(self, rule, m, place, text, near, cure):
         """tells of a place of a method: an error where a method that is asked for may run it"""
-        (self.told.error if m in self.within else self.told.warn)(text, *self.study.shown(self.methods.at(m, place)))
+        (self.told.error if m in self.within else self.told.warn)(rule, text, *self.study.shown(self.methods.at(m, place)), near, cure)
 
     def tell_rings(self):
         """tells of each ring of methods, at the line of the first call"""
@@ -141,7 +139,8 @@ class Bounded:
         for names in rings.values():
             first = self.methods.number[names[0]]
             target = self.methods.number[names[1 % len(names)]]
-            self.tell_of(first, self.methods.call_place(first, target), f"recursion ({' calls '.join([*names, names[0]])})")
+            text, near = f"recursion ({' calls '.join([*names, names[0]])})", re.escape(called(names[1 % len(names)])) + r"\s*\("
+            self.tell_of("recursion", first, self.methods.call_place(first, target), text, near, "write a loop, whose turns can be bounded")
 
     # ---- shapes
 
@@ -159,11 +158,9 @@ class Bounded:
         return {"method": name, "number": chosen, "command": answer.command, "rows": answers.shapes(answer)}
 
 
-def clear(folder):
-    """takes away certificates of an earlier call"""
-    for name in os.listdir(folder):
-        if name.endswith(".cert"):
-            os.remove(os.path.join(folder, name))
+def called(name):
+    """the name by which a method of this full name is called in a source"""
+    return name.partition("(")[0].rpartition(".")[2]
 
 
 def last_line(text):

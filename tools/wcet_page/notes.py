@@ -1,8 +1,8 @@
-"""Sources, and the bounds of loops in their comments. Not proved: a tool.
+"""Sources, and the bounds of loops and the lengths of arrays in their comments. Not proved: a tool.
 
 A note is `@WCA loop=N` (or `loop<=N`) anywhere in a comment of one line, or `@ loop <= N` at its beginning; behind N stands
 nothing, a blank and `(`, or `//`. It belongs to the line on which it stands; where it stands alone there, to the next line of
-code.
+code. A note `@WCA length=N` is the same of arrays that are made at a line.
 """
 import difflib
 import os
@@ -14,16 +14,19 @@ from .classes import digest
 TOKEN = re.compile(r'//[^\n]*|/\*.*?\*/|"""(?:\\.|[^\\])*?"""|"(?:\\.|[^"\\\n])*"|\'(?:\\.|[^\'\\\n])*\'', re.S)
 NUMBER = r"(0|[1-9][0-9]{0,9})"
 BEHIND = r"(?=\s*$|\s+\(|\s*//)"
-NOTES = [re.compile(rf"@WCA\s+loop\s*(?:<=|=)\s*{NUMBER}{BEHIND}"), re.compile(rf"^@\s*loop\s*<=\s*{NUMBER}{BEHIND}")]
+LOOP, LENGTH = "loop", "length"
+NOTES = {kind: [re.compile(rf"@WCA\s+{kind}\s*(?:<=|=)\s*{NUMBER}{BEHIND}"), re.compile(rf"^@\s*{kind}\s*<=\s*{NUMBER}{BEHIND}")] for kind in (LOOP, LENGTH)}
 MARK = re.compile(r"@\s*wca\b", re.I)
 WORD = re.compile(r"@\s*([A-Za-z]+)(?![\w.])")
+# Where a caret points in a line with a note.
+AT = r"@\s*\w"
 # How alike the first word of a comment is to that of a note, where it is taken for one that is misspelt.
 ALIKE = 0.66
-MOST = 2**32 - 1
+MOST = {LOOP: 2**32 - 1, LENGTH: 2**31 - 1}
 
 
 class Source:
-    """a source: its name as class files have it, where it lies, its SHA-256, its text and the lines of that"""
+    """a source: its name as class files have it, its place in the folder of the record, its SHA-256, its text and the lines of that"""
 
     def __init__(self, file, path, data):
         self.file, self.path, self.sha256 = file, path, digest(data)
@@ -32,7 +35,7 @@ class Source:
 
 
 class Note:
-    """what a comment says of the loops of a line: `at` is the comment's own line"""
+    """what a comment says of the loops, or of the arrays, of a line: `at` is the comment's own line"""
 
     def __init__(self, source, at, line, bound):
         self.source, self.at, self.line, self.bound = source, at, line, bound
@@ -42,13 +45,10 @@ class Note:
 
 
 def find(file, folders):
-    """the source of this name in the first folder that has it, or none; a name that leads out of the folder is none"""
+    """the path of the source of this name in the first folder that has it, or none; a name that leads out of the folder is none"""
     inside = not os.path.isabs(file) and ".." not in file.split("/") and "\0" not in file
-    for path in (os.path.normpath(os.path.join(folder, file)) for folder in folders if inside):
-        if os.path.isfile(path):
-            with open(path, "rb") as opened:
-                return Source(file, path, opened.read())
-    return None
+    paths = (os.path.join(folder, file) for folder in folders if inside)
+    return next(filter(os.path.isfile, paths), None)
 
 
 def comments(text):
@@ -63,26 +63,26 @@ def comments(text):
     return found, "".join([*parts, text[at:]]).split("\n")
 
 
-def bound_of(words):
-    """the number of a note, none where the words are none"""
-    found = next((match for match in (note.search(words) for note in NOTES) if match), None)
-    return int(found[1]) if found and int(found[1]) <= MOST else None
+def bound_of(words, kind):
+    """the number of a note of a kind, none where the words are none"""
+    found = next((match for match in (note.search(words) for note in NOTES[kind]) if match), None)
+    return int(found[1]) if found and int(found[1]) <= MOST[kind] else None
 
 
 def is_attempt(words):
     """whether a comment that is no note seems to be meant as one"""
     first = WORD.match(words) if re.search(r"[<=0-9]", words) else None
-    return bool(MARK.search(words)) or bool(first and difflib.get_close_matches(first[1].lower(), ("loop", "wca"), 1, ALIKE))
+    return bool(MARK.search(words)) or bool(first and difflib.get_close_matches(first[1].lower(), ("loop", "length", "wca"), 1, ALIKE))
 
 
-def read(source):
-    """the notes of a source, and what is wrong with its comments: lines and what is told"""
+def read(source, kind=LOOP):
+    """the notes of a kind in a source, and what is wrong with its comments: lines and what is told"""
     notes, faults = [], []
     found, code = comments(source.text)
     for at, words in found:
         if "\n" in words:
             continue
-        bound, line = bound_of(words), line_of(at, code)
+        bound, line = bound_of(words, kind), line_of(at, code)
         if bound is not None and line is not None:
             earlier = next((note for note in notes if note.line == line), None)
             if earlier:
@@ -91,7 +91,7 @@ def read(source):
                 notes.append(Note(source, at, line, bound))
         elif bound is not None:
             faults.append((at, "a note without a line of code behind it"))
-        elif is_attempt(words):
+        elif is_attempt(words) and not any(bound_of(words, each) is not None for each in NOTES):
             faults.append((at, f"misspelt note `{words}`: write `@WCA loop=N` or `@ loop <= N`"))
     return notes, faults
 

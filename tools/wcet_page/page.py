@@ -1,5 +1,6 @@
 """The page of a record: what is worked out for it (shares and ratios alone), and its templates. Not proved: a tool."""
 import os
+import re
 
 from jinja2 import Environment, FileSystemLoader, StrictUndefined
 from markupsafe import Markup
@@ -10,6 +11,8 @@ from .words import USUAL
 TEMPLATES = os.path.join(os.path.dirname(os.path.realpath(__file__)), "templates")
 GROUPS = {"own": "its own lines", "calls": "lines of what it calls", "loads": "loads of the method cache", "invoke": "the invoke",
           "return": "the load on return"}
+# Words of the stack on chip that hold no frames (docs/commands.md, memory).
+SAVED = 80
 MACHINE = {
     "--blocks": "blocks of the method cache", "--block-words": "words of a block", "--read": "cycles that a read waits", "--write": "cycles that a write waits",
     "--stack": "words of the stack on chip", "--memory": "words of memory", "--cycles": "cycles after which a run is stopped",
@@ -21,6 +24,11 @@ def fig(figure):
     value = figure["value"]
     text = f"{value:,}" if isinstance(value, int) else {"never": "never ends", "none": "none"}.get(value, value)
     return Markup('<data value="{}" title="{}\n{}">{}</data>').format(value, figure["line"], figure["command"], text)
+
+
+def parted(name):
+    """a method's name, which breaks behind its separators alone"""
+    return Markup("<wbr>").join(re.split(r"(?<=[/.;(,$])|(?=\()", name))
 
 
 def worked(text, why):
@@ -95,8 +103,9 @@ def nest(loops, inner):
 
 def environment():
     made = Environment(loader=FileSystemLoader(TEMPLATES), autoescape=True, trim_blocks=True, lstrip_blocks=True, undefined=StrictUndefined)
-    made.globals.update(fig=fig, worked=worked, share=share, patterns=pictures.PATTERNS, machine=MACHINE, place=messages.place, style=text_of("style.css"),
-                        script=text_of("sort.js"), nest=lambda loops: nest(loops, lambda loop: loop["inner"]))
+    made.globals.update(fig=fig, parted=parted, worked=worked, share=share, shown=messages.shown, beneath=messages.beneath)
+    made.globals.update(saved=SAVED, machine=MACHINE, patterns=pictures.PATTERNS, style=text_of("style.css"), script=text_of("sort.js"))
+    made.globals.update(nest=lambda loops: nest(loops, lambda loop: loop["inner"]))
     return made
 
 
@@ -106,12 +115,10 @@ def text_of(name):
         return Markup(file.read())
 
 
-def page(record, sources):
-    """the page, as one text of HTML"""
+def page(record, sources, sha256):
+    """the page of a record with this digest, as one text of HTML"""
     drawn = [Drawn(method, record, sources) for method in record.get("methods", [])]
     by_name = {each.method["method"]: each for each in drawn}
-    for number, each in enumerate(record["messages"]):
-        each["id"] = f"e{number}"
     shapes = record.get("shapes")
     options = {**USUAL, **record["options"]}
     plot = pictures.shapes(shapes["rows"], options["--blocks"], options["--block-words"]) if shapes else ""
@@ -120,4 +127,4 @@ def page(record, sources):
         for number, _ in each.callees():
             callers.setdefault(number, []).append(each)
     template = environment().get_template("page.html")
-    return template.render(record=record, methods=drawn, by_name=by_name, callers=callers, options=options, plot=plot)
+    return template.render(record=record, sha256=sha256, methods=drawn, by_name=by_name, callers=callers, options=options, plot=plot)

@@ -36,8 +36,10 @@ def swatch(kind):
 
 # ---- bounds over shapes
 
-BOX = (62, 22, 505, 250)  # left, top, right, bottom of the plot
-SIZE = (520, 292)
+# The picture's width and height, and how far the plot keeps from its right, its top and its bottom; on the left stand the cycles.
+SIZE, RIGHT, TOP, BOTTOM = (1120, 300), 18, 22, 42
+# The width of a digit, and of the gap beside the cycles.
+DIGIT, GAP = 6.7, 8
 DASHES = ["", "7 3", "2 3", "9 3 2 3", "4 2"]
 GREYS = ["#000000", "#1f4e79", "#7a7a7a"]
 # The lines of the grid at most, and what lies between two of them, times a power of ten.
@@ -53,12 +55,14 @@ class Scale:
         self.least, self.most = min(values) // self.step * self.step, -(-max(values) // self.step) * self.step
         self.most = max(self.most, self.least + self.step)
         self.exponent = max(log2(row["blocks"] * row["words"]) for row in rows) or 1
+        self.left, self.right = GAP + DIGIT * len(f"{self.most:,}"), SIZE[0] - RIGHT
+        self.top, self.bottom = TOP, SIZE[1] - BOTTOM
 
     def x(self, words):
-        return BOX[0] + (BOX[2] - BOX[0]) * log2(words) / self.exponent
+        return self.left + (self.right - self.left) * log2(words) / self.exponent
 
     def y(self, cycles):
-        return BOX[3] - (BOX[3] - BOX[1]) * (cycles - self.least) / (self.most - self.least)
+        return self.bottom - (self.bottom - self.top) * (cycles - self.least) / (self.most - self.least)
 
 
 def step_of(span):
@@ -73,12 +77,12 @@ def axes(scale):
     """the grid, with the words of the cache below and the cycles on the left"""
     made = []
     for cycles in range(scale.least, scale.most + 1, scale.step):
-        made.append(f'<line x1="{BOX[0]}" x2="{BOX[2]}" y1="{scale.y(cycles):.1f}" y2="{scale.y(cycles):.1f}" stroke="#ddd"/>'
-                    f'<text x="{BOX[0] - 6}" y="{scale.y(cycles) + 4:.1f}" text-anchor="end">{cycles:,}</text>')
+        made.append(f'<line x1="{scale.left:.1f}" x2="{scale.right}" y1="{scale.y(cycles):.1f}" y2="{scale.y(cycles):.1f}" stroke="#ddd"/>'
+                    f'<text x="{scale.left - 6:.1f}" y="{scale.y(cycles) + 4:.1f}" text-anchor="end">{cycles:,}</text>')
     for power in range(0, int(scale.exponent) + 1, 2):
         x = scale.x(2 ** power)
-        made.append(f'<line x1="{x:.1f}" x2="{x:.1f}" y1="{BOX[3]}" y2="{BOX[3] + 4}" stroke="#333"/>'
-                    f'<text x="{x:.1f}" y="{BOX[3] + 17}" text-anchor="middle">{words_text(2 ** power)}</text>')
+        made.append(f'<line x1="{x:.1f}" x2="{x:.1f}" y1="{scale.bottom}" y2="{scale.bottom + 4}" stroke="#333"/>'
+                    f'<text x="{x:.1f}" y="{scale.bottom + 17}" text-anchor="middle">{words_text(2 ** power)}</text>')
     return made
 
 
@@ -119,8 +123,9 @@ def shapes(rows, blocks, words):
     here = next((row for row in ending if (row["blocks"], row["words"]) == (blocks, words)), None)
     if here:
         x, y = scale.x(blocks * words), scale.y(here["bound"]["value"])
-        beside = y - 12 if y > (BOX[1] + BOX[3]) / 2 else y + 20
+        beside = y - 12 if y > (scale.top + scale.bottom) / 2 else y + 20
         made.append(f'<circle cx="{x:.1f}" cy="{y:.1f}" r="6" fill="none" stroke="#000" stroke-width="2"/>'
                     f'<text x="{x:.1f}" y="{beside:.1f}" text-anchor="middle" font-weight="bold">this machine</text>')
-    made.append(f'<text x="{(BOX[0] + BOX[2]) / 2}" y="{BOX[3] + 34}" text-anchor="middle">words of the method cache (blocks × words of a block)</text>')
+    middle, title = (scale.left + scale.right) / 2, "words of the method cache (blocks × words of a block)"
+    made.append(f'<text x="{middle:.1f}" y="{scale.bottom + 34}" text-anchor="middle">{title}</text>')
     return Markup(f'<svg class="plot" viewBox="0 0 {SIZE[0]} {SIZE[1]}" width="{SIZE[0]}" height="{SIZE[1]}" role="img">{"".join(made)}</svg>')

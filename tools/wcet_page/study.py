@@ -1,20 +1,22 @@
-"""All that is asked of `jop` for a record: from class files, or from the files of a record that is checked. Not proved: a tool."""
+"""All that is asked of `jop` for a record, of copies of the files that were handed in. Not proved: a tool."""
 import os
 import re
 import shlex
-import tempfile
 from concurrent.futures import ThreadPoolExecutor
 
-from . import answers, premises, runs
+from . import against, answers, premises, programs, refusals, runs, shared
 from .calls import step
 from .classes import collected, digest
+from .deadlines import Deadlines
+from .folder import put
+from .lengths import Lengths
 from .lines import Methods
 from .messages import ERROR
 from .methods import Bounded
 
 IMAGE, NOTES, BOUNDS, SIZES = "wcet.jopi", "wcet.notes", "wcet.bounds", "wcet.sizes"
 # The form of a record.
-FORM = 1
+FORM = 2
 THREADS = min(4, os.cpu_count() or 1)
 
 
@@ -23,21 +25,18 @@ def read(folder, name):
         return file.read()
 
 
-def hashed(folder, name, **more):
-    return {"path": name, "sha256": digest(read(folder, name)), **more}
-
-
 class Study:
-    """a program with what is found of it; `kept` is the record that is checked, none where one is made"""
+    """a program with what is found of it, in a folder that is made"""
 
-    def __init__(self, asked, jop, told, kept=None):
-        self.asked, self.jop, self.told, self.kept = asked, jop, told, kept
-        self.folder = jop.folder
-        self.record = {"form": FORM, "jop": jop.call("--version").lines()[0], "main": asked.main, "options": asked.options}
+    def __init__(self, asked, jop, told, folder):
+        self.asked, self.jop, self.told, self.kept = asked, jop, told, folder
+        self.folder, self.sources = folder.path, {}
+        self.record = {"form": FORM, "programs": programs.used(jop), "main": asked.main, "options": asked.options}
 
     def run(self):
         """the record, as far as it comes"""
-        if self.image():
+        self.take()
+        if self.link():
             self.methods = Methods(read(self.folder, IMAGE))
             self.suppose()
             self.bound()
@@ -45,43 +44,37 @@ class Study:
             self.need()
         return self.record
 
+    def hashed(self, name, **more):
+        return {"path": name, "sha256": digest(read(self.folder, name)), **more}
+
+    # ---- what was handed in
+
+    def take(self):
+        """copies what was handed in; sources follow where the classes are known"""
+        keep = self.kept.keep_file
+        self.inputs = [keep("inputs", path) for path in self.asked.inputs]
+        self.bounds = [keep("bounds", path) for path in self.asked.bounds]
+        self.files = {name[2:]: keep(name[2:], path) for name, path in self.asked.files.items()}
+        self.classes, told = collected(self.asked.classes, self.kept)
+        for rule, text, place in told:
+            self.told.remark(rule, text, place)
+        self.deadlines = Deadlines(self)
+        self.record["asked"] = {"methods": self.asked.methods, "source": bool(self.asked.sources)}
+        self.record["files"] = {"inputs": self.inputs, "bounds": self.bounds, **self.files}
+        self.record["classes"] = [each.record() for each in self.classes]
+
     # ---- the image
 
-    def image(self):
-        """the image, linked anew where no record is checked; whether there is one"""
-        if self.kept:
-            self.record["image"] = {**self.kept["image"], **hashed(self.folder, IMAGE)}
-            return self.is_readable()
-        with tempfile.TemporaryDirectory(prefix="jop-wcet-") as room, step("linking"):
-            files, told = collected(self.asked.classes, room)
-            for text in told:
-                self.told.remark(text)
-            return self.link(files)
-
-    def link(self, files):
-        main = self.asked.main
-        shown = ["link", "--main", main, *(each.path for each in files)]
-        linked = self.jop.call("link", "--main", main, *(os.path.abspath(each.file) for each in files), shown=shown)
-        self.record["classes"] = [each.record() for each in files]
+    def link(self):
+        """the image; whether there is one"""
+        files = [each for each in self.classes if each.is_linked]
+        with step("linking"):
+            linked = self.jop.call("link", "--main", self.asked.main, *(each.place for each in files))
         if linked.status:
-            number = re.search(r" file=(\d+)", linked.line)
-            self.told.error(linked.line, files[int(number[1])].path if number and int(number[1]) < len(files) else None)
+            refusals.tell(self, files, linked.line)
             return False
-        with open(os.path.join(self.folder, IMAGE), "wb") as file:
-            file.write(linked.out)
-        self.record["image"] = hashed(self.folder, IMAGE, command=f"{linked.command} > {IMAGE}", figures=answers.pairs(linked.line, linked.command))
-        return True
-
-    def is_readable(self):
-        """whether the image that was kept is one, and has the class files of the record"""
-        said = self.jop.call("loops", IMAGE)
-        if said.status:
-            self.told.error(f"{IMAGE}: {said.line}")
-            return False
-        methods = Methods(read(self.folder, IMAGE))
-        here = [{"name": c.name.decode("utf-8", "replace"), "sha256": digest(data)} for c, data in zip(methods.own_classes(), methods.files)]
-        paths = {each["sha256"]: each["path"] for each in self.kept.get("classes", [])}
-        self.record["classes"] = [{"name": each["name"], "path": paths.get(each["sha256"], "?"), "sha256": each["sha256"]} for each in here]
+        put(self.folder, IMAGE, linked.out)
+        self.record["image"] = self.hashed(IMAGE, command=f"{linked.command} > {IMAGE}", figures=answers.pairs(linked.line, linked.command))
         return True
 
     # ---- what is supposed
@@ -89,16 +82,13 @@ class Study:
     def suppose(self):
         """sources, notes and bounds, and the loops that have none"""
         with step("reading sources and bounds"):
-            self.sources = premises.sources_of(self.methods, self.asked.sources)
+            self.sources = premises.sources_of(self.methods, self.asked.sources, self.kept, self.told)
             self.record["sources"] = [{"file": each.file, "path": each.path, "sha256": each.sha256} for each in self.sources.values()]
-            if self.kept:
-                lines = [premises.Line(**each) for each in self.kept["notes"]["lines"]]
-            else:
-                lines = self.settle(premises.lines_of(self.sources, self.asked.bounds, self.told))
-            text = read(self.folder, BOUNDS).decode("utf-8", "surrogateescape").splitlines()
+            lines = self.settle(premises.lines_of(self.sources, self.folder, self.bounds, self.told))
+            text = answers.lines_of(read(self.folder, BOUNDS))
             self.premises = premises.Premises(self.jop, self.methods, lines, text)
-        self.record["notes"] = hashed(self.folder, NOTES, lines=[each.record() for each in lines])
-        self.record["bounds"] = hashed(self.folder, BOUNDS, command=f"jop headers {IMAGE} {NOTES} > {BOUNDS}")
+        self.record["notes"] = self.hashed(NOTES, lines=[each.record() for each in lines])
+        self.record["bounds"] = self.hashed(BOUNDS, command=f"jop headers {IMAGE} {NOTES} > {BOUNDS}")
         self.record["loops"] = self.premises.record()
         self.nest()
 
@@ -108,7 +98,10 @@ class Study:
         for loop in self.record["loops"]:
             places.setdefault(loop["method"], []).append(loop["place"])
         self.nodes = {name: self.methods.loops(self.methods.number[name], found) for name, found in places.items()}
-        for loop in self.record["loops"]:
+        found = shared.Loops(self.methods, self.premises.headers, self.nodes)
+        shared.tell(self.premises.lines, self.sources, found, self.told)
+        for loop, header in zip(self.record["loops"], self.premises.headers.loops):
+            loop["back"] = sorted(set(found.back(header)) - {None})
             nodes = self.nodes[loop["method"]].get(loop["place"], ())
             loop["inner"] = [place for place in places[loop["method"]] if place != loop["place"] and (place, False) in nodes]
 
@@ -117,8 +110,8 @@ class Study:
         plain = answers.Headers(self.jop.call("headers", IMAGE).lines())
         lines, answer = premises.settled(self.jop, lines, self.told, premises.Known(plain, self.methods))
         if answer.status:
-            self.told.error(f"{answer.command}: {answer.line}")
-        premises.put(self.folder, BOUNDS, answer.out.decode("utf-8", "surrogateescape"))
+            self.told.error("refused", f"{answer.command}: {answer.line}")
+        put(self.folder, BOUNDS, answer.out)
         return lines
 
     # ---- bounds and certificates
@@ -131,7 +124,9 @@ class Study:
             bounded.tell()
         with step("bounding in all shapes of the cache"):
             self.record["shapes"] = bounded.shapes()
-        self.bounded = bounded
+        self.record["deadlines"] = self.deadlines.record(self.record["methods"])
+        earlier = against.read_earlier(self.folder, self.files.get("against"), self.told)
+        self.record["against"] = None if earlier is None else against.compared(earlier, self)
 
     # ---- runs
 
@@ -139,61 +134,59 @@ class Study:
         """what runs with each input do: the dearest activations, and how often loops go round"""
         self.record["runs"] = []
         by_name = {each["method"]: each for each in self.record["methods"]}
-        for path in self.asked.inputs:
-            with step(f"running {path}"):
-                self.observe_run(path, by_name)
+        for each in self.inputs:
+            with step(f"running {self.kept.paths[each['path']]}"):
+                self.observe_run(each["path"], by_name)
 
     def observe_run(self, path, by_name):
-        with open(path, "rb") as file:
-            data = file.read()
+        data = read(self.folder, path)
         answer = self.jop.call("profile", IMAGE, BOUNDS, given=data)
-        answer.command += f" < {shlex.quote(os.path.relpath(path, self.folder))}"
+        answer.command += f" < {shlex.quote(path)}"
         if answer.status not in (0, 1, 3):
-            self.told.error(f"{answer.command}: {answer.line}", path)
+            self.told.error("refused", f"{answer.command}: {answer.line}", path)
             return
         for name, figures in answers.profile(answer).items():
             if name in by_name:
                 by_name[name]["seen"].append({"input": path, **figures})
-        with open(path, "rb") as given:
+        with open(os.path.join(self.folder, path), "rb") as given:
             turns, steps = runs.count(self.jop.steps(IMAGE, given), self.nodes)
         for loop in self.record["loops"]:
             if key(loop) in turns:
                 loop["seen"].append({"input": path, "turns": turns[key(loop)]})
         said = answers.pairs(answer.line, answer.command)
-        self.record["runs"].append({"input": path, "sha256": digest(data), "line": answer.line, "figures": said, "steps": steps})
+        self.record["runs"].append({"input": path, "line": answer.line, "figures": said, "steps": steps})
 
     # ---- memory
 
     def need(self):
         """how many words a run needs at most"""
-        if not self.kept:
-            text = b""
-            if self.asked.sizes:
-                with open(self.asked.sizes, "rb") as file:
-                    text = file.read()
-            premises.put(self.folder, SIZES, text.decode("utf-8", "surrogateescape"))
-        answer = self.jop.call("memory", IMAGE, BOUNDS, SIZES)
+        lengths = Lengths(self)
+        lengths.take()
+
+        def ask():
+            return self.jop.call("memory", IMAGE, BOUNDS, SIZES)
+        answer = ask()
         line = answer.lines()[0] if answer.status == 0 else answer.line
         self.record["memory"] = {"command": answer.command, "line": line, "figures": answers.pairs(line, answer.command) if answer.status == 0 else {}}
-        self.record["sizes"] = hashed(self.folder, SIZES)
+        lengths.tell(lengths.missing(answer, ask))
+        self.record["sizes"], self.record["lengths"] = self.hashed(SIZES), lengths.record()
         is_told = line.startswith(("memory: missing bound", "memory: recursion", "memory: irreducible")) and self.told.count(ERROR)
-        if answer.status and not is_told:
+        if answer.status and not is_told and not line.startswith("memory: missing size"):
             self.tell_need(line)
 
     def tell_need(self, line):
         """why there is no number of words, with the line of the source"""
-        match = re.fullmatch(r"memory: (missing size|recursion|irreducible|too large) (\S+)(?: (\d+))?.*", line)
+        match = re.fullmatch(r"memory: (missing bound|recursion|irreducible|too large) ([^ \n]+)(?: (\d+))?.*", line)
         if match and match[2] in self.methods.number:
             at = self.methods.at(self.methods.number[match[2]], int(match[3] or 0))
-            text = {"missing size": "array without a greatest length, so no memory is told"}.get(match[1], f"no memory is told: {match[1]}")
-            self.told.warn(f"{text} ({line.partition(': ')[2].partition(match[1] + ' ')[2]})", *self.shown(at))
+            self.told.warn("memory", f"no memory is told: {line.partition(': ')[2]}", *self.shown(at))
         else:
-            self.told.warn(line)
+            self.told.warn("memory", line)
 
     # ---- places
 
     def shown(self, at):
-        """a file and a line as they are told: the file by its path where it is here"""
+        """a file and a line as they are told: the file by its place in the folder where it is here"""
         if at is None:
             return None, None
         source = self.sources.get(at[0])
