@@ -5,7 +5,8 @@ use Rattle.std.specs.declared.alloc.Global.{Global}
 use Rattle.std.proofs.Math.Path.{fun_ext}
 use Rattle.std.proofs.lemmas.Bool.{true≢false}
 use Rattle.class_pool.specs.declared.class.ClassFile.{ClassFile}
-use Rattle.program_tables.specs.Resolved.{resolved, method_name}
+use Rattle.program_tables.specs.Resolved.{resolved}
+use Rattle.method_names.specs.Written.{written_name}
 use Rattle.command_line.specs.declared.command.Settings.{Settings}
 use Rattle.bytecode_model.specs.Program.{Program, Body, body_of}
 use Rattle.method_flow.specs.declared.timing.Timing.{Timing}
@@ -104,19 +105,19 @@ named_in : (name have : List ℕ) (o : Option Coded) (q : Option Body) → AreAl
 named_in name have o q (none e f) coded h = absurd (true≢false (sym (subst (λ (x : Option Body). IsSome x) f coded)))
 named_in name have o q (some k b e f is) coded h = subst (λ (x : Option Coded). IsSomeAnd x (λ k. k.name ≡ name)) (sym e) (is ∙ h)
 
-module _ (cs : List ClassFile) (f : Flow) (flow : IsFlowOf (resolved cs) f) (names : (m : ℕ) (k : Coded) → slice_get f.methods m ≡ Some k → k.name ≡ method_name cs m) (name : List ℕ) where
+module _ (cs : List ClassFile) (f : Flow) (flow : IsFlowOf (resolved cs) f) (names : (m : ℕ) (k : Coded) → slice_get f.methods m ≡ Some k → k.name ≡ written_name cs m) (name : List ℕ) where
   pub asked_out : (root : ℕ) → IsAsked (resolved cs) (IsNamedBy f name) root → IsAsked (resolved cs) (MethodHasName cs name) root
   asked_out root h = record {
     coded = h.coded;
     not_boot = h.not_boot;
-    is_named = named_out name (method_name cs root) (slice_get f.methods root) (body_of (resolved cs) root) (are_alike cs f flow names root) h.coded h.is_named;
+    is_named = named_out name (written_name cs root) (slice_get f.methods root) (body_of (resolved cs) root) (are_alike cs f flow names root) h.coded h.is_named;
   }
 
   asked_in : (root : ℕ) → IsAsked (resolved cs) (MethodHasName cs name) root → IsAsked (resolved cs) (IsNamedBy f name) root
   asked_in root h = record {
     coded = h.coded;
     not_boot = h.not_boot;
-    is_named = named_in name (method_name cs root) (slice_get f.methods root) (body_of (resolved cs) root) (are_alike cs f flow names root) h.coded h.is_named;
+    is_named = named_in name (written_name cs root) (slice_get f.methods root) (body_of (resolved cs) root) (are_alike cs f flow names root) h.coded h.is_named;
   }
 
   cause_out : (t : Timing) (b : BoundOf) (r : BoundRefusal) → IsCause (resolved cs) t b (IsNamedBy f name) r → IsCause (resolved cs) t b (MethodHasName cs name) r

@@ -5,7 +5,8 @@ use Rattle.std.specs.declared.alloc.Global.{Global}
 use Rattle.std.proofs.Math.Path.{fun_ext}
 use Rattle.class_pool.specs.declared.class.ClassFile.{ClassFile}
 use Rattle.bytecode_model.specs.Program.{Program}
-use Rattle.program_tables.specs.Resolved.{resolved, method_name}
+use Rattle.program_tables.specs.Resolved.{resolved}
+use Rattle.method_names.specs.Written.{written_name}
 use Rattle.method_flow.specs.Flow.{Coded, Flow, IsFlowOf}
 use Rattle.loop_rules.specs.declared.found.FoundLoop.{FoundLoop}
 use Rattle.loop_rules.specs.Sites.{Sites, AreIntSites, constants_in}
@@ -52,7 +53,7 @@ module _ (cs : List ClassFile) (f : Flow) (s : Sites) (are : AreIntSites (resolv
   tables_ok (Ok tables) h = tables_by tables.items h
   tables_ok (Err e) h = tt
 
-module _ (cs : List ClassFile) (f : Flow) (flow : IsFlowOf (resolved cs) f) (names : (m : ℕ) (k : Coded) → slice_get f.methods m ≡ Some k → k.name ≡ method_name cs m) where
+module _ (cs : List ClassFile) (f : Flow) (flow : IsFlowOf (resolved cs) f) (names : (m : ℕ) (k : Coded) → slice_get f.methods m ≡ Some k → k.name ≡ written_name cs m) where
   lines : (text : List ℕ) → AreFurtherLinesBy f cs text → AreFurtherLines cs text
   lines text h = record {
     constants = h.by.constants;

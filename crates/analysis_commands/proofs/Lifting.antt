@@ -7,7 +7,8 @@ use Rattle.std.proofs.lemmas.Bool.{true≢false}
 use Rattle.std.proofs.lemmas.Option.{slice_get_within, slice_get_cases}
 use Rattle.lists.proofs.Lemmas.{none≢some}
 use Rattle.class_pool.specs.declared.class.ClassFile.{ClassFile}
-use Rattle.program_tables.specs.Resolved.{resolved, method_name}
+use Rattle.program_tables.specs.Resolved.{resolved}
+use Rattle.method_names.specs.Written.{written_name}
 use Rattle.linked_methods.specs.declared.fitting.TooLong.{TooLong}
 use Rattle.linked_methods.specs.Fitting.{IsFirst}
 use Rattle.command_line.specs.declared.command.Settings.{Settings}
@@ -79,20 +80,20 @@ some_body (Some b) Q h = refl
 
 -- ---- the table
 
-module _ (cs : List ClassFile) (f : Flow) (flow : IsFlowOf (resolved cs) f) (names : (m : ℕ) (k : Coded) → slice_get f.methods m ≡ Some k → k.name ≡ method_name cs m) where
-  pub are_alike : (m : ℕ) → AreAlike (method_name cs m) (slice_get f.methods m) (body_of (resolved cs) m)
-  are_alike m = alike f.methods m (method_name cs m) (slice_get f.methods m) (body_of (resolved cs) m) refl (flow.coded m) (names m)
+module _ (cs : List ClassFile) (f : Flow) (flow : IsFlowOf (resolved cs) f) (names : (m : ℕ) (k : Coded) → slice_get f.methods m ≡ Some k → k.name ≡ written_name cs m) where
+  pub are_alike : (m : ℕ) → AreAlike (written_name cs m) (slice_get f.methods m) (body_of (resolved cs) m)
+  are_alike m = alike f.methods m (written_name cs m) (slice_get f.methods m) (body_of (resolved cs) m) refl (flow.coded m) (names m)
 
   pub bounds_same : (lines : List LoopBound) → table.bounds_of f lines ≡ bounds_of cs lines
-  bounds_same lines = fun_ext (λ m. fun_ext (λ p. bound_alike (method_name cs m) p lines (slice_get f.methods m) (body_of (resolved cs) m) (are_alike m)))
+  bounds_same lines = fun_ext (λ m. fun_ext (λ p. bound_alike (written_name cs m) p lines (slice_get f.methods m) (body_of (resolved cs) m) (are_alike m)))
 
   pub named : (m : ℕ) → table_name f m ≡ named_or_number cs m
   unfolding name_or name_if
-  named m = name_alike (number_text m) (method_name cs m) (slice_get f.methods m) (body_of (resolved cs) m) (are_alike m)
+  named m = name_alike (number_text m) (written_name cs m) (slice_get f.methods m) (body_of (resolved cs) m) (are_alike m)
 
-  pub named_coded : (m : ℕ) → IsSome (body_of (resolved cs) m) → table_name f m ≡ method_name cs m
+  pub named_coded : (m : ℕ) → IsSome (body_of (resolved cs) m) → table_name f m ≡ written_name cs m
   unfolding name_or name_if
-  named_coded m coded = named m ∙ name_some (number_text m) (method_name cs m) (body_of (resolved cs) m) coded
+  named_coded m coded = named m ∙ name_some (number_text m) (written_name cs m) (body_of (resolved cs) m) coded
 
   -- ---- why there is no analysis
 
@@ -116,17 +117,17 @@ bounds_refused cs s text (BadBounds line) fits is = (fits, is)
 bounds_refused cs s text (TwiceBound line) fits is = (fits, is)
 bounds_refused cs s text NoMemory fits is = tt
 
-pub analysed : (cs : List ClassFile) (s : Settings) (text : List ℕ) (f : Flow) (t : Timing) (a : Analysis) → IsFlowOf (resolved cs) f → ((m : ℕ) (k : Coded) → slice_get f.methods m ≡ Some k → k.name ≡ method_name cs m)
+pub analysed : (cs : List ClassFile) (s : Settings) (text : List ℕ) (f : Flow) (t : Timing) (a : Analysis) → IsFlowOf (resolved cs) f → ((m : ℕ) (k : Coded) → slice_get f.methods m ≡ Some k → k.name ≡ written_name cs m)
     → EachFits s cs → t ≡ timing_of s → a.flow ≡ f → a.timing ≡ t → IsRead text a.bounds → IsAnalysisOf cs s text a
 analysed cs s text f t a flow names fits timing same_flow same_timing read = record {
   codes_fit = fits;
   flow = subst (λ (x : Flow). IsFlowOf (resolved cs) x) (sym same_flow) flow;
-  names = subst (λ (x : Flow). (m : ℕ) (k : Coded) → slice_get x.methods m ≡ Some k → k.name ≡ method_name cs m) (sym same_flow) names;
+  names = subst (λ (x : Flow). (m : ℕ) (k : Coded) → slice_get x.methods m ≡ Some k → k.name ≡ written_name cs m) (sym same_flow) names;
   bounds = read;
   timing = same_timing ∙ timing;
 }
 
-pub analysed_ok : (cs : List ClassFile) (s : Settings) (text : List ℕ) (f : Flow) (t : Timing) (r : Result Analysis AnalysisFault) → IsFlowOf (resolved cs) f → ((m : ℕ) (k : Coded) → slice_get f.methods m ≡ Some k → k.name ≡ method_name cs m)
+pub analysed_ok : (cs : List ClassFile) (s : Settings) (text : List ℕ) (f : Flow) (t : Timing) (r : Result Analysis AnalysisFault) → IsFlowOf (resolved cs) f → ((m : ℕ) (k : Coded) → slice_get f.methods m ≡ Some k → k.name ≡ written_name cs m)
     → EachFits s cs → t ≡ timing_of s → IfOk r (λ a. (a.flow ≡ f) × (a.timing ≡ t) × IsRead text a.bounds) → IfOk r (IsAnalysisOf cs s text)
 analysed_ok cs s text f t (Ok a) flow names fits timing parts = analysed cs s text f t a flow names fits timing parts.0 parts.1 parts.2
 analysed_ok cs s text f t (Err fault) flow names fits timing parts = tt

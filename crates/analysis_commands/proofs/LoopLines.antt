@@ -4,7 +4,8 @@ use Rattle.std.specs.Prelude.{flat_map, slice_get, Result, Ok, Err, IfOk, Vec}
 use Rattle.std.specs.declared.alloc.Global.{Global}
 use Rattle.std.proofs.Math.Path.{fun_ext}
 use Rattle.class_pool.specs.declared.class.ClassFile.{ClassFile}
-use Rattle.program_tables.specs.Resolved.{resolved, method_name}
+use Rattle.program_tables.specs.Resolved.{resolved}
+use Rattle.method_names.specs.Written.{written_name}
 use Rattle.method_flow.specs.Flow.{Coded, Flow, IsFlowOf}
 use Rattle.loop_rules.specs.declared.found.FoundLoop.{FoundLoop}
 use Rattle.loop_rules.specs.Finding.{AreCountedLoops}
@@ -14,7 +15,7 @@ use Rattle.analysis_commands.specs.Answers.{table_name}
 use Rattle.analysis_commands.specs.Loops.{found_line, AreLoopLines, AreLoopLinesBy}
 use Rattle.analysis_commands.proofs.Lifting.{named}
 
-module _ (cs : List ClassFile) (f : Flow) (flow : IsFlowOf (resolved cs) f) (names : (m : ℕ) (k : Coded) → slice_get f.methods m ≡ Some k → k.name ≡ method_name cs m) where
+module _ (cs : List ClassFile) (f : Flow) (flow : IsFlowOf (resolved cs) f) (names : (m : ℕ) (k : Coded) → slice_get f.methods m ≡ Some k → k.name ≡ written_name cs m) where
   lines : (text : List ℕ) → AreLoopLinesBy f cs text → AreLoopLines cs text
   lines text h = record {
     constants = h.constants;

@@ -3,7 +3,8 @@ use Rattle.std.proofs.Common.{◌≡◌, ℕ, List, Some, sym, subst}
 use Rattle.std.specs.Prelude.{slice_get, Result, Ok, Err, IfOk, IfErr}
 use Rattle.std.proofs.Math.Path.{fun_ext}
 use Rattle.class_pool.specs.declared.class.ClassFile.{ClassFile}
-use Rattle.program_tables.specs.Resolved.{resolved, method_name}
+use Rattle.program_tables.specs.Resolved.{resolved}
+use Rattle.method_names.specs.Written.{written_name}
 use Rattle.bytecode_model.specs.Program.{Program}
 use Rattle.loop_bounds.specs.Bounds.{LoopBound}
 use Rattle.loop_bounds.specs.Grammar.{IsRead, IsReadLengths}
@@ -51,7 +52,7 @@ not_met P bounds lengths name fault (refusals.TwiceBound line) is h = absurd h
 not_met P bounds lengths name fault (refusals.BadSizes line) is h = absurd h
 not_met P bounds lengths name fault (refusals.TwiceSize line) is h = absurd h
 
-module _ (cs : List ClassFile) (f : Flow) (flow : IsFlowOf (resolved cs) f) (names : (m : ℕ) (k : Coded) → slice_get f.methods m ≡ Some k → k.name ≡ method_name cs m) (given : Given) where
+module _ (cs : List ClassFile) (f : Flow) (flow : IsFlowOf (resolved cs) f) (names : (m : ℕ) (k : Coded) → slice_get f.methods m ≡ Some k → k.name ≡ written_name cs m) (given : Given) where
   -- what is said with the table's bounds and names is said with the program's
   moved : (Q : BoundOf → BoundOf → (ℕ → List ℕ) → Type 0) → Q (table.bounds_of f given.bounds) (table.bounds_of f given.lengths) (table_name f)
       → Q (bounds_of cs given.bounds) (bounds_of cs given.lengths) (named_or_number cs)

@@ -1,7 +1,8 @@
 -- What an analysis of a program stands on: the timing that the settings give, the names of the methods, and the bounds of their loops.
 use Rattle.std.specs.Prelude.{◌≡◌, ℕ, ◌++◌, List, Some, None, codes, decimal, slice_get}
 use Rattle.class_pool.specs.declared.class.ClassFile.{ClassFile}
-use Rattle.program_tables.specs.Resolved.{resolved, method_name}
+use Rattle.program_tables.specs.Resolved.{resolved}
+use Rattle.method_names.specs.Written.{written_name}
 use Rattle.linked_methods.specs.Fitting.{MethodFits, IsFirst}
 use Rattle.command_line.specs.declared.command.Settings.{Settings}
 use Rattle.loop_bounds.specs.Bounds.{LoopBound, bound_in}
@@ -29,11 +30,11 @@ abbrev pub number_text : (method : ℕ) → List ℕ
 number_text m = codes "#" ++ decimal m
 
 abbrev pub named_or_number : List ClassFile → (method : ℕ) → List ℕ
-named_or_number cs m = elim (body_of (resolved cs) m) [ None ↦ number_text m | Some b ↦ method_name cs m ]
+named_or_number cs m = elim (body_of (resolved cs) m) [ None ↦ number_text m | Some b ↦ written_name cs m ]
 
 -- the bounds that lines give for the loops of methods with code, by the methods' names
 abbrev pub bounds_of : List ClassFile → List LoopBound → BoundOf
-bounds_of cs lines m p = onto (body_of (resolved cs) m) (λ b. bound_in (method_name cs m) p lines)
+bounds_of cs lines m p = onto (body_of (resolved cs) m) (λ b. bound_in (written_name cs m) p lines)
 
 -- ---- what is made of them
 
@@ -42,7 +43,7 @@ bounds_of cs lines m p = onto (body_of (resolved cs) m) (λ b. bound_in (method_
 pub record IsAnalysisOf (cs : List ClassFile) (s : Settings) (bounds_text : List ℕ) (a : Analysis) : Type 0 where
   pub codes_fit : EachFits s cs
   pub flow : IsFlowOf (resolved cs) a.flow
-  pub names : (m : ℕ) (k : Coded) → slice_get a.flow.methods m ≡ Some k → k.name ≡ method_name cs m
+  pub names : (m : ℕ) (k : Coded) → slice_get a.flow.methods m ≡ Some k → k.name ≡ written_name cs m
   pub bounds : IsRead bounds_text a.bounds
   pub timing : a.timing ≡ timing_of s
 
@@ -56,7 +57,7 @@ IsBoundsFault text NoMemory = Unit {0}
 -- why there is no analysis: the first method whose code doesn't fit, with its name, or else what refuses the bounds
 abbrev pub IsAnalysisFault : List ClassFile → Settings → (bounds_text : List ℕ) → AnalysisFault → Type 0
 IsAnalysisFault cs s text (MethodTooLong m name blocks) = IsFirst (resolved cs) s.blocks s.block_words (record { method = m; blocks = blocks })
-    × (name.items ≡ method_name cs m)
+    × (name.items ≡ written_name cs m)
 IsAnalysisFault cs s text (BadBounds line) = EachFits s cs × IsBoundsFault text (BadBounds line)
 IsAnalysisFault cs s text (TwiceBound line) = EachFits s cs × IsBoundsFault text (TwiceBound line)
 IsAnalysisFault cs s text NoMemory = Unit {0}

@@ -1,7 +1,8 @@
 -- What `bound` finds of a program, of the bounds of its loops, and of a method that is asked for by its name.
 use Rattle.std.specs.Prelude.{◌≡◌, ℕ, List, [], ◌++◌, Option, Some, None, map}
 use Rattle.class_pool.specs.declared.class.ClassFile.{ClassFile}
-use Rattle.program_tables.specs.Resolved.{resolved, method_name}
+use Rattle.program_tables.specs.Resolved.{resolved}
+use Rattle.method_names.specs.Written.{written_name}
 use Rattle.bytecode_model.specs.Program.{Program}
 use Rattle.command_line.specs.declared.command.Settings.{Settings}
 use Rattle.ascii_text.specs.Line.{lines_of as text_lines}
@@ -25,7 +26,7 @@ use Rattle.analysis_commands.specs.Analysis.{EachFits, timing_of, bounds_of, nam
 
 -- the method has the name
 abbrev pub MethodHasName : List ClassFile → (name : List ℕ) → (method : ℕ) → Type 0
-MethodHasName cs name m = method_name cs m ≡ name
+MethodHasName cs name m = written_name cs m ≡ name
 
 -- ---- the certificate
 

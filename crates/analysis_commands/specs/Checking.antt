@@ -2,7 +2,8 @@
 use Rattle.std.specs.Prelude.{◌≡◌, ℕ, List, [], ◌∷◌, Option, Some, None}
 use Rattle.std.specs.Option.{option_map_or}
 use Rattle.class_pool.specs.declared.class.ClassFile.{ClassFile}
-use Rattle.program_tables.specs.Resolved.{resolved, method_name}
+use Rattle.program_tables.specs.Resolved.{resolved}
+use Rattle.method_names.specs.Written.{written_name}
 use Rattle.command_line.specs.declared.command.Settings.{Settings}
 use Rattle.ascii_text.specs.Line.{lines_of as text_lines}
 use Rattle.loop_bounds.specs.Bounds.{LoopBound}
@@ -35,7 +36,7 @@ pub record IsHeld (cs : List ClassFile) (s : Settings) (bounds_text cert_text : 
   pub reads : ReadsBoth cs s bounds_text cert_text bounds certificate
   pub meets : MeetsConditions (resolved cs) (timing_of s) (bounds_of cs bounds) certificate
   pub root : h.root ≡ certificate.root
-  pub name : h.name.items ≡ method_name cs certificate.root
+  pub name : h.name.items ≡ written_name cs certificate.root
   pub bound : h.bound ≡ certificate.bound
 
 -- the method that a fault speaks of

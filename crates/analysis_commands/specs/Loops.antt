@@ -1,5 +1,5 @@
 -- What `loops` finds of a program: the lines that bound its loops that count.
-use Rattle.std.specs.Prelude.{◌≡◌, ℕ, ◌==◌, ◌&&◌, Bool, not, ℤ, List, [], Option, flat_map, if◌then◌else◌}
+use Rattle.std.specs.Prelude.{◌≡◌, ℕ, ◌==◌, ℤ, List, [], Option, flat_map, if◌then◌else◌}
 use Rattle.class_pool.specs.declared.class.ClassFile.{ClassFile}
 use Rattle.program_tables.specs.Resolved.{resolved}
 use Rattle.method_flow.specs.Flow.{Flow, IsFlowOf}
@@ -11,17 +11,13 @@ use Rattle.further_rules.specs.Found.{Table}
 use Rattle.further_rules.specs.Arrays.{AreTables, IsKnownBy}
 use Rattle.loop_finder.specs.Further.{AreCountedFurther}
 use Rattle.int_sites.specs.Constants.{AreConstants}
-use Rattle.answer_lines.specs.LoopLine.{is_nameable, loop_line}
+use Rattle.answer_lines.specs.LoopLine.{loop_line}
 use Rattle.analysis_commands.specs.Analysis.{named_or_number}
 use Rattle.analysis_commands.specs.Answers.{table_name}
 
--- a line can bound loops of the method of this name, which isn't the one that is run first
-abbrev pub can_be_named : (boot method : ℕ) → (name : List ℕ) → Bool
-can_be_named boot method name = not (method == boot) && is_nameable name
-
--- the line of a loop that is found, where one can bound it
+-- the line of a loop that is found; none of the method that is run first
 abbrev pub found_line : (name : ℕ → List ℕ) → (boot : ℕ) → FoundLoop → List ℕ
-found_line name boot x = if can_be_named boot x.method (name x.method) then loop_line (name x.method) x.place x.bound else []
+found_line name boot x = if x.method == boot then [] else loop_line (name x.method) x.place x.bound
 
 -- the lines of the program's loops that count, methods and places rising; limits are constants of static final ints that nothing writes, too
 pub record AreLoopLines (cs : List ClassFile) (text : List ℕ) : Type 0 where

@@ -5,7 +5,7 @@ use Rattle.class_pool.specs.declared.class.ClassFile.{ClassFile}
 use Rattle.program_tables.specs.Resolved.{resolved}
 use Rattle.section_check.specs.Least.{IsLeast}
 use Rattle.slot_table.specs.declared.slot.Slot.{Slot}
-use Rattle.slot_table.specs.Slots.{name_text}
+use Rattle.slot_table.specs.Slots.{slot_word}
 use Rattle.slot_table.specs.Executive.{call_place}
 use Rattle.command_line.specs.declared.command.Settings.{Settings}
 use Rattle.loop_bounds.specs.Bounds.{LoopBound}
@@ -73,7 +73,7 @@ pub record KeepsLength (P : Program) (t : Timing) (bound_of : BoundOf) (name : �
 -- `slot I NAME bound=B length=C`
 abbrev pub plan_line : (slot : ℕ) → Slot → (bound : ℕ) → List ℕ
 plan_line i s bound =
-    codes "slot " ++ (decimal i ++ (codes " " ++ (name_text s ++ (codes " bound=" ++ (decimal bound
+    codes "slot " ++ (decimal i ++ (codes " " ++ (slot_word s ++ (codes " bound=" ++ (decimal bound
     ++ (codes " length=" ++ (decimal s.length ++ codes "\n")))))))
 
 -- the lines of slots that are counted from this number on, with their bounds

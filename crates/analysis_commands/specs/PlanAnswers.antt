@@ -1,7 +1,8 @@
 -- What is answered of slots by the table of a program.
 use Rattle.std.specs.Prelude.{◌≡◌, ◌++◌, ℕ, List, [], ◌∷◌, Option, Some, None, slice_get}
 use Rattle.class_pool.specs.declared.class.ClassFile.{ClassFile}
-use Rattle.program_tables.specs.Resolved.{resolved, method_name}
+use Rattle.program_tables.specs.Resolved.{resolved}
+use Rattle.method_names.specs.Written.{written_name}
 use Rattle.section_check.specs.Least.{IsLeast}
 use Rattle.slot_table.specs.declared.slot.Slot.{Slot}
 use Rattle.bytecode_model.specs.Program.{Program}
@@ -29,7 +30,7 @@ use Rattle.analysis_commands.specs.Plan.{executive_name, CallsOnly, IsSlotMethod
 -- it is the table of the program, with the names of its methods
 pub record IsFlowWithNames (cs : List ClassFile) (f : Flow) : Type 0 where
   pub flow : IsFlowOf (resolved cs) f
-  pub names : (m : ℕ) (k : Coded) → slice_get f.methods m ≡ Some k → k.name ≡ method_name cs m
+  pub names : (m : ℕ) (k : Coded) → slice_get f.methods m ≡ Some k → k.name ≡ written_name cs m
 
 -- the first method of the table that has the executive's name
 abbrev pub IsExecutiveIn : Flow → (executive : Option ℕ) → Type 0

@@ -4,7 +4,8 @@ ghost use Rattle.base.specs.Sizes.{longest_file};
 ghost use Rattle.command_line.specs.Range.{AreSettings};
 ghost use Rattle.loop_bounds.specs.Grammar.{IsRead};
 ghost use Rattle.method_flow.specs.Flow.{Coded, IsFlowOf};
-ghost use Rattle.program_tables.specs.Resolved.{resolved, method_name};
+ghost use Rattle.program_tables.specs.Resolved.{resolved};
+ghost use Rattle.method_names.specs.Written.{written_name};
 ghost use Rattle.analysis_commands.specs.Analysis.{timing_of, IsAnalysisOf, IsBoundsFault, IsAnalysisFault};
 ghost use Rattle.analysis_commands.specs.Answers.{IsMethodTooLong};
 
@@ -69,7 +70,7 @@ pub fn bounds_in(alloc: Global, text: &[u8]) -> Result<Bounds, AnalysisFault>
 /// The table of a program.
 pub fn table_of(alloc: Global, program: &Verified) -> Result<FlowProgram, NoMemory>
     ensures flow { IfOk result (IsFlowOf (resolved program.now)) }
-    ensures names { IfOk result (λ f. (m : ℕ) (k : Coded) → slice_get f.methods m ≡ Some k → k.name ≡ method_name program.now m) }
+    ensures names { IfOk result (λ f. (m : ℕ) (k : Coded) → slice_get f.methods m ≡ Some k → k.name ≡ written_name program.now m) }
 {
     program.is_typed();
     flow_of(alloc, program.program())

@@ -1,14 +1,14 @@
 //! The loops of a program that count, as lines of bounds.
 ghost use Rattle.std.specs.Prelude.{◌≡◌, ◌++◌, OnOk, IfOk, flat_map};
 ghost use Rattle.analysis_commands.specs.Answers.{table_name};
-ghost use Rattle.analysis_commands.specs.Loops.{can_be_named, found_line, AreFurtherBy, AreFurtherLines, AreFurtherLinesBy, AreLoopLines};
+ghost use Rattle.analysis_commands.specs.Loops.{found_line, AreFurtherBy, AreFurtherLines, AreFurtherLinesBy, AreLoopLines};
 ghost use Rattle.analysis_commands.specs.Loops.{AreLoopLinesBy, AreTablesBy};
 ghost use Rattle.loop_rules.specs.Sites.{AreIntSites};
 ghost use Rattle.program_tables.specs.Resolved.{resolved};
 
 use crate::analysis::table_of;
 use crate::names::table_name;
-use answer_lines::{is_nameable, put_loop_line};
+use answer_lines::put_loop_line;
 use array_fields::{arrays_read, field_arrays};
 use base::NoMemory;
 use bytecode_verifier::Verified;
@@ -21,14 +21,7 @@ use method_flow::FlowProgram;
 use resolved_program::Program;
 use std::alloc::Global;
 
-/// Whether a line can bound loops of the method of this name.
-fn can_be_named(flow: &FlowProgram, method: u32, name: &[u8]) -> bool
-    ensures { result ≡ can_be_named flow.now.boot method name.now }
-{
-    method != flow.boot() && is_nameable(name)
-}
-
-/// Appends the line of a loop that was found, where one can bound it.
+/// Appends the line of a loop that was found, if it isn't one of the method that is run first.
 fn put_found(
     alloc: Global,
     text: &mut Vec<u8>,
@@ -37,12 +30,11 @@ fn put_found(
 ) -> Result<(), NoMemory>
     ensures { OnOk result (text.new.items ≡ text.old.items ++ found_line (table_name flow.now) flow.now.boot found) }
 {
-    let name = table_name(alloc, flow, found.method)?;
-    if can_be_named(flow, found.method, &name) {
-        put_loop_line(text, &name, found.place, found.bound)
-    } else {
-        Ok(())
+    if found.method == flow.boot() {
+        return Ok(());
     }
+    let name = table_name(alloc, flow, found.method)?;
+    put_loop_line(text, &name, found.place, found.bound)
 }
 
 /// The lines of loops that were found.
@@ -66,7 +58,7 @@ fn lines_by(alloc: Global, flow: &FlowProgram, program: &Program) -> Result<Vec<
 }
 
 /// The lines that bound the loops of a program that count, methods and places of headers rising: `NAME PC loop<=N`, as a text of
-/// bounds has them. Loops of the method that is run first, and of methods whose names can't stand in a line, are passed over.
+/// bounds has them. Loops of the method that is run first are passed over.
 pub fn loop_lines(alloc: Global, program: &Verified) -> Result<Vec<u8>, NoMemory>
     ensures { IfOk result (λ text. AreLoopLines program.now text.items) }
 {

@@ -133,13 +133,19 @@ fn kept_bound(
 }
 
 /// Appends the line of a slot: `slot I NAME bound=B length=C`.
-fn put_plan_line(text: &mut Vec<u8>, slot: u32, parts: &Slot, bound: u64) -> Result<(), NoMemory>
+fn put_plan_line(
+    alloc: Global,
+    text: &mut Vec<u8>,
+    slot: u32,
+    parts: &Slot,
+    bound: u64,
+) -> Result<(), NoMemory>
     ensures { OnOk result (text.new.items ≡ text.old.items ++ plan_line slot parts.now bound) }
 {
     text.extend_from_slice(b"slot ")?;
     put_u64(text, slot as u64)?;
     text.push(b' ')?;
-    parts.put_name(text)?;
+    parts.put_name(alloc, text)?;
     text.extend_from_slice(b" bound=")?;
     put_u64(text, bound)?;
     text.extend_from_slice(b" length=")?;
@@ -165,7 +171,7 @@ fn put_slot(
     ensures refused { IfErr result (IsSlotRefusedBy analysis.now slot parts.now) }
 {
     let bound = kept_bound(alloc, analysis, executive, slot, parts)?;
-    match put_plan_line(text, slot, parts, bound) {
+    match put_plan_line(alloc, text, slot, parts, bound) {
         Ok(_) => Ok(()),
         Err(_) => Err(NotPlanned::NoMemory),
     }

@@ -21,7 +21,7 @@ mod unanswered;
 pub use bound::BoundCause;
 pub use check::{say_fault, say_held};
 pub use line::{AsmLine, Counts, Line, LinkLine, Named, Place, Sizes, SlotCounts};
-pub use loop_line::{is_nameable, put_loop_line};
+pub use loop_line::put_loop_line;
 pub use memory::memory_line;
 pub use pieces::{Piece, put_pieces};
 pub use plan::PlanCause;

@@ -1,20 +1,9 @@
 //! The line of a text of bounds that bounds a loop.
 ghost use Rattle.std.specs.Prelude.{◌≡◌, ◌++◌, OnOk};
-ghost use Rattle.answer_lines.specs.LoopLine.{is_nameable, loop_line};
+ghost use Rattle.answer_lines.specs.LoopLine.{loop_line};
 
 use ascii_text::put_u64;
 use base::NoMemory;
-use source_bounds::is_unbroken;
-
-/// Whether a line of bounds can begin with the name.
-pub fn is_nameable(name: &[u8]) -> bool
-    ensures { result ≡ is_nameable name.now }
-{
-    match name {
-        [] => false,
-        [first, ..] => *first != b'#' && is_unbroken(name),
-    }
-}
 
 /// Appends the line that bounds the loop of a method whose header is at this place: `NAME PC loop<=N`.
 pub fn put_loop_line(

@@ -9,9 +9,11 @@ use Rattle.class_pool.specs.declared.class.ClassFile.{ClassFile}
 use Rattle.image_facts.specs.declared.method.CodedMethod.{CodedMethod}
 use Rattle.image_facts.specs.Methods.{IsMethodRecord}
 use Rattle.linked_methods.specs.Placed.{AreOnly}
+use Rattle.class_lookup.specs.Lookup.{Place}
 use Rattle.program_tables.specs.Laws.{MethodsStandByNumber}
 use Rattle.program_tables.specs.Numbers.{methods_by_number, method_text}
 use Rattle.program_tables.specs.Resolved.{resolved, at_method}
+use Rattle.method_names.specs.Written.{written}
 use Rattle.image_words.specs.Regions.{places_of}
 use Rattle.bytecode_model.specs.Program.{body_of}
 use Rattle.commands.specs.declared.show.Show.{Show}
@@ -27,16 +29,16 @@ named_by shown methods others same named = subst (HaveNamesToShow shown) (sym sa
 
 -- so many names
 abbrev pub AreFirst : List ClassFile → (n : ℕ) → List (Vec ℕ Global) → Type 0
-AreFirst cs n names = texts names ≡ map (method_text cs) (take n (methods_by_number cs))
+AreFirst cs n names = texts names ≡ map (λ m. written (method_text cs m)) (take n (methods_by_number cs))
 
 -- with each number comes one name more
-pub one_more : (cs : List ClassFile) (n : ℕ) (names : List (Vec ℕ Global)) (name : Vec ℕ Global) → n < length (methods_by_number cs) → AreFirst cs n names → name.items ≡ at_method cs n [] (method_text cs) → AreFirst cs (n + 1) (names ++ name ∷ [])
+pub one_more : (cs : List ClassFile) (n : ℕ) (names : List (Vec ℕ Global)) (name : Vec ℕ Global) → n < length (methods_by_number cs) → AreFirst cs n names → name.items ≡ written (at_method cs n [] (method_text cs)) → AreFirst cs (n + 1) (names ++ name ∷ [])
 one_more cs n names name within before is =
-    let f = method_text cs in
+    let f : Place → List ℕ = λ m. written (method_text cs m) in
     let ms = methods_by_number cs in
     map-append (λ (x : Vec ℕ Global). x.items) names (name ∷ [])
     ∙ ap (λ ys. ys ++ name.items ∷ []) before
-    ∙ ap (λ y. map f (take n ms) ++ y ∷ []) (is ∙ ap (λ o. option_map_or f o []) (slice_get-get_or ms n (0, 0) within))
+    ∙ ap (λ y. map f (take n ms) ++ y ∷ []) (is ∙ ap (λ (o : Option Place). written (option_map_or (method_text cs) o [])) (slice_get-get_or ms n (0, 0) within))
     ∙ sym (map_more f ms n (0, 0) within)
 
 -- there are no more methods with code than methods
@@ -50,4 +52,4 @@ few by_number cs (e ∷ es) only =
 
 pub named : MethodsStandByNumber → (cs : List ClassFile) (show : Show) (methods : List CodedMethod) → AreOnly cs methods → HaveNamesToShow (linked_shown cs show) methods
 named by_number cs shows.Output methods only = tt
-named by_number cs (shows.Trace cycles) methods only = omega (arith, few by_number cs methods only, length-map (methods_by_number cs) (method_text cs))
+named by_number cs (shows.Trace cycles) methods only = omega (arith, few by_number cs methods only, length-map (methods_by_number cs) (λ (m : Place). written (method_text cs m)))

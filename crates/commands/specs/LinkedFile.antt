@@ -5,8 +5,7 @@ use Rattle.device_traits.specs.declared.fault.DeviceFault.{DeviceFault}
 use Rattle.class_pool.specs.Utf8.{utf8_bytes}
 use Rattle.class_pool.specs.declared.class.ClassFile.{ClassFile}
 use Rattle.class_lookup.specs.Parts.{name_of}
-use Rattle.program_tables.specs.Numbers.{method_text}
-use Rattle.program_tables.specs.Resolved.{at_method}
+use Rattle.method_names.specs.Written.{written, written_name}
 use Rattle.image_file.specs.Linked as file
 use Rattle.image_file.specs.Linked.{LinkedContent}
 use Rattle.command_line.specs.declared.command.Settings.{Settings}
@@ -37,13 +36,13 @@ BytesFault bytes ending = ⊥
 
 -- ---- the run
 
--- these are the bytes of the name of the class of this number
+-- this is written of the name of the class of this number
 abbrev pub NamesClass : List ClassFile → (class : ℕ) → (name : List ℕ) → Type 0
-NamesClass cs class name = IsSomeAnd (slice_get cs class) (λ k. name ≡ utf8_bytes (name_of k))
+NamesClass cs class name = IsSomeAnd (slice_get cs class) (λ k. name ≡ written (utf8_bytes (name_of k)))
 
--- these are the bytes of the name of the method of this number, behind its class and before its descriptor
+-- this is written of the name of the method of this number, behind its class and before its descriptor
 abbrev pub NamesMethod : List ClassFile → (method : ℕ) → (name : List ℕ) → Type 0
-NamesMethod cs method name = name ≡ at_method cs method [] (method_text cs)
+NamesMethod cs method name = name ≡ written_name cs method
 
 -- this ending says that the method's code doesn't fit; or there was no memory for its name
 abbrev pub IsTooLongAs : List ClassFile → (method blocks limit : ℕ) → Ending → Type 0

@@ -3,6 +3,7 @@ use Rattle.std.specs.Prelude.{◌≡◌, ℕ, ◌+◌, ◌<◌, ◌≤◌, ◌==
 use Rattle.std.specs.declared.option.Option.{Option}
 use Rattle.outside.specs.Outside.{Grew, Rose}
 use Rattle.outside.specs.Files.{FilesTold, files_told, OnlyWords, AreFiles, IsTooBigAt, FailsAt}
+use Rattle.method_names.specs.Written.{name_in}
 use Rattle.image_file.specs.Linked as file
 use Rattle.image_words.specs.Limits.{coded_methods}
 use Rattle.jopizer.specs.declared.refusal.LinkRefusal.{LinkRefusal}
@@ -16,12 +17,12 @@ use Rattle.commands.specs.declared.outcome.Ending.{Ending}
 use Rattle.commands.specs.declared.outcome.Ending.TheVariants.{Linked, Refused, NotLinked, ReadFault, WriteFault, NoMemory}
 use Rattle.commands.specs.World.{World, IsQuiet, IsUntaken}
 
--- the name of a class, in which each `.` of the word reads as `/`
+-- the name of a class of which the word is written, in which each `.` reads as `/`; none, which is empty, where it is written of no name
 abbrev pub slashed : (byte : ℕ) → ℕ
 slashed byte = if byte == 46 then 47 else byte
 
 abbrev pub class_name : (word : List ℕ) → List ℕ
-class_name word = map slashed word
+class_name word = map slashed (name_in word)
 
 -- ---- the files
 

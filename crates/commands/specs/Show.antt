@@ -2,6 +2,7 @@
 use Rattle.std.specs.Prelude.{ℕ, ◌≤◌, Bool, List, [], ◌∷◌, length, map, codes}
 use Rattle.class_pool.specs.declared.class.ClassFile.{ClassFile}
 use Rattle.program_tables.specs.Numbers.{methods_by_number, method_text}
+use Rattle.method_names.specs.Written.{written}
 use Rattle.image_facts.specs.declared.method.CodedMethod.{CodedMethod}
 use Rattle.boundary.specs.Traces.{texts}
 use Rattle.commands.specs.declared.show.Show.{Show}
@@ -44,9 +45,9 @@ abbrev pub bare_shown : Show → Shown
 bare_shown shows.Output = Output
 bare_shown (shows.Trace cycles) = Trace cycles (codes "boot" ∷ [])
 
--- the texts of the methods of classes, by number
+-- what is written of the names of the methods of classes, by number
 abbrev pub method_names : List ClassFile → List (List ℕ)
-method_names cs = map (method_text cs) (methods_by_number cs)
+method_names cs = map (λ m. written (method_text cs m)) (methods_by_number cs)
 
 abbrev pub linked_shown : List ClassFile → Show → Shown
 linked_shown cs shows.Output = Output

@@ -2,7 +2,8 @@
 ghost use Rattle.std.specs.Prelude.{◌≡◌, ◌≤◌, ℕ, length, Some, slice_get};
 ghost use Rattle.base.specs.Sizes.{longest_file};
 ghost use Rattle.method_flow.specs.Flow.{Coded, IsFlowOf};
-ghost use Rattle.program_tables.specs.Resolved.{resolved, method_name};
+ghost use Rattle.program_tables.specs.Resolved.{resolved};
+ghost use Rattle.method_names.specs.Written.{written_name};
 ghost use Rattle.commands.specs.Headers.{header_ending, AnswersHeaders, AnswersBareHeaders};
 
 use crate::outcome::{Answer, Ending, Refusal};
@@ -29,7 +30,7 @@ fn header_ending(fault: HeaderFault) -> Ending
 /// The text of the headers of a program with this table, or why there is none.
 fn headers_by(alloc: Global, program: &Program, flow: &FlowProgram, lines: &[u8]) -> Answer
     requires flow { IsFlowOf (resolved program.now) flow.now }
-    requires names { (m : ℕ) (k : Coded) → slice_get flow.now.methods m ≡ Some k → k.name ≡ method_name program.now m }
+    requires names { (m : ℕ) (k : Coded) → slice_get flow.now.methods m ≡ Some k → k.name ≡ written_name program.now m }
     requires short { length lines.now ≤ longest_file }
     ensures { AnswersHeaders program.now lines.now result }
 {

@@ -28,6 +28,7 @@ use image_file::{one_image, read_linked};
 use jop_core::Watch;
 use jopizer::{ImageFault, LinkRefusal, Linked, read_image};
 use linked_methods::first_too_long;
+use method_names::written_name;
 use outside::{Sink, Source};
 use program_tables::laws::methods_stand_by_number;
 use refusal_lines::{name_room, tell_name};
@@ -80,7 +81,7 @@ fn too_long(alloc: Global, program: &Program, method: u32, blocks: u32, limit: u
     requires { method < length (methods_by_number program.now) }
     ensures { IsTooLongAs program.now method blocks limit result }
 {
-    match program.method_name(alloc, method) {
+    match written_name(alloc, program, method) {
         Ok(name) => Ending::TooLong(method, name, blocks, limit),
         Err(_) => Ending::NoMemory,
     }

@@ -17,6 +17,7 @@ use answer_lines::Sizes;
 use base::NoMemory;
 use image_layout::coded_methods;
 use jopizer::{LinkRefusal, Linked, link, write_image};
+use method_names::read_name;
 use outside::{Files, FilesFault, Sink, put_all, read_files};
 use program_resolution::ProgramRefusal;
 use refusal_lines::name_in;
@@ -28,11 +29,12 @@ fn slashed(byte: u8) -> u8
     if byte == b'.' { b'/' } else { byte }
 }
 
-/// The name of a class, in which each `.` of the word reads as `/`.
+/// The name of a class of which the word is written, in which each `.` reads as `/`.
 fn class_name(alloc: Global, word: &[u8]) -> Result<Vec<u8>, NoMemory>
     ensures { IfOk result (λ name. name.items ≡ class_name word.now) }
 {
-    Ok(word.iter().map(|byte| slashed(*byte)).collect(alloc)?)
+    let name = read_name(alloc, word)?;
+    Ok(name.iter().map(|byte| slashed(*byte)).collect(alloc)?)
 }
 
 /// The files of the words from one up to another.

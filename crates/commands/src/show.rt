@@ -4,6 +4,7 @@ ghost use Rattle.boundary.specs.Traces.{texts};
 ghost use Rattle.commands.specs.Show.{bare_shown, linked_shown, method_names, shown_by};
 
 use base::NoMemory;
+use method_names::written_name;
 use resolved_program::Program;
 use std::alloc::Global;
 
@@ -51,7 +52,7 @@ fn method_names(alloc: Global, program: &Program) -> Result<Vec<Vec<u8>>, NoMemo
 {
     let mut names = Vec::new(alloc);
     for number in 0..program.method_count() {
-        names.push(program.method_name(alloc, number)?)?;
+        names.push(written_name(alloc, program, number)?)?;
     }
     Ok(names)
 }

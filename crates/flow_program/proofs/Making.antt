@@ -21,8 +21,9 @@ use Rattle.method_flow.specs.declared.flow.Call.{Call}
 use Rattle.method_flow.specs.Flow.{Coded, IsCoded, range_of}
 use Rattle.method_flow.specs.Kinds.{RowsAreOfTheirKinds}
 use Rattle.program_tables.specs.Laws.{MethodsStandByNumber, MembersAreThere}
-use Rattle.program_tables.specs.Numbers.{methods_by_number, method_text}
-use Rattle.program_tables.specs.Resolved.{at_method, resolved_method, resolved_methods, resolved}
+use Rattle.program_tables.specs.Numbers.{methods_by_number}
+use Rattle.method_names.specs.Written.{written_name}
+use Rattle.program_tables.specs.Resolved.{resolved_method, resolved_methods, resolved}
 use Rattle.program_tables.specs.Resolving.{IsResolved}
 use Rattle.flow_program.specs.Invokes.{IsCodeOf, invoked_at, list_number, calls_in}
 use Rattle.flow_program.specs.Made.{range_at, HasCode, AreCoded, IsMade, AreMade}
@@ -84,7 +85,7 @@ module _ (stand : MethodsStandByNumber) (cs : List ClassFile) (coded m : ℕ) (k
         let handlers = bounds.handlers in
         is_coded stays starts kinds P w m b.body b.is_body coded name code ranges calls (b.code ∙ sym ec) (b.ranges ∙ sym er) el short (omega arith)
 
-    pub made : (r : Coded) → name ≡ at_method cs m [] (method_text cs) → r ≡ record { name = name; code = code; ranges = ranges; calls = calls } → IsMade cs coded m r
+    pub made : (r : Coded) → name ≡ written_name cs m → r ≡ record { name = name; code = code; ranges = ranges; calls = calls } → IsMade cs coded m r
     made r en e =
         let b = body_of_code stand cs m k is in
         let here : IsMade cs coded m (record { name = name; code = code; ranges = ranges; calls = calls }) = record {

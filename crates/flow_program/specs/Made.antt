@@ -1,5 +1,5 @@
 -- The methods of the table, made of those of a program.
-use Rattle.std.specs.Prelude.{◌≡◌, ℕ, ◌+◌, ◌<◌, ◌^◌, List, [], length, map, Some, IsSome, slice_get}
+use Rattle.std.specs.Prelude.{◌≡◌, ℕ, ◌+◌, ◌<◌, ◌^◌, List, length, map, Some, IsSome, slice_get}
 use Rattle.std.specs.Option.{IsSomeAnd}
 use Rattle.class_pool.specs.declared.class.ClassFile.{ClassFile}
 use Rattle.class_pool.specs.declared.class.Code.{Code}
@@ -9,8 +9,9 @@ use Rattle.bytecode_model.specs.Lists.{onto}
 use Rattle.bytecode_model.specs.Program.{body_of}
 use Rattle.method_flow.specs.declared.flow.HandlerRange.{HandlerRange}
 use Rattle.method_flow.specs.Flow.{Coded, range_of}
-use Rattle.program_tables.specs.Numbers.{methods_by_number, method_text}
-use Rattle.program_tables.specs.Resolved.{at_method, resolved}
+use Rattle.program_tables.specs.Numbers.{methods_by_number}
+use Rattle.program_tables.specs.Resolved.{resolved}
+use Rattle.method_names.specs.Written.{written_name}
 use Rattle.flow_program.specs.Invokes.{calls_in}
 
 -- an entry of an exception table of a class file (4.7.3), what it catches apart
@@ -27,9 +28,9 @@ pub record AreCoded (cs : List ClassFile) (coded : ℕ) : Type 0 where
   pub no_others : (m : ℕ) → IsSome (body_of (resolved cs) m) → m < coded
   pub few : coded + length (methods_by_number cs) < 2 ^ 32
 
--- the method of this number, with its text, its code and its exception table, and its invokes
+-- the method of this number, with its name as it is written, its code and its exception table, and its invokes
 pub record IsMade (cs : List ClassFile) (coded m : ℕ) (k : Coded) : Type 0 where
-  pub name : k.name ≡ at_method cs m [] (method_text cs)
+  pub name : k.name ≡ written_name cs m
   pub body : IsSomeAnd (body_of (resolved cs) m) (λ b. (b.code ≡ k.code) × (map range_of b.handlers ≡ k.ranges))
   pub calls : k.calls ≡ calls_in (resolved cs) coded m k.code
 

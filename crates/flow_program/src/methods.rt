@@ -1,9 +1,9 @@
 //! The methods of the table.
-ghost use Rattle.std.specs.Prelude.{◌≡◌, [], map, IfOk};
+ghost use Rattle.std.specs.Prelude.{◌≡◌, map, IfOk};
 ghost use Rattle.bytecode_typing.specs.Lawful.{Lawful};
 ghost use Rattle.bytecode_typing.specs.WellPlaced.{WellPlaced};
-ghost use Rattle.program_tables.specs.Numbers.{method_text};
-ghost use Rattle.program_tables.specs.Resolved.{at_method, resolved};
+ghost use Rattle.program_tables.specs.Resolved.{resolved};
+ghost use Rattle.method_names.specs.Written.{written_name};
 ghost use Rattle.flow_program.specs.Made.{range_at, AreCoded, HasCode, IsMade, AreMade};
 
 use crate::invokes::calls_of;
@@ -13,6 +13,7 @@ use class_pool::Code;
 use class_rules::laws::methods_have_code;
 use method_flow::laws::rows_are_of_their_kinds;
 use method_flow::{FlowMethod, HandlerRange};
+use method_names::written_name;
 use opcodes::laws::{instructions_end_within, starts_follow_one_another};
 use program_tables::laws::methods_stand_by_number;
 use resolved_program::Program;
@@ -47,7 +48,7 @@ fn method_with(
     requires lawful { Lawful (resolved program.now) }
     requires coded { AreCoded program.now coded }
     requires code { HasCode program.now number code.now }
-    requires name { name.items ≡ at_method program.now number [] (method_text program.now) }
+    requires name { name.items ≡ written_name program.now number }
     requires ranges { ranges.items ≡ map range_at code.now.handlers }
     ensures { IfOk result (IsMade program.now coded number) }
 {
@@ -78,7 +79,7 @@ fn method_of(
     ensures { IfOk result (IsMade program.now coded number) }
 {
     let ranges = ranges_of(alloc, code.handlers.as_slice())?;
-    let name = program.method_name(alloc, number)?;
+    let name = written_name(alloc, program, number)?;
     method_with(alloc, program, number, code, coded, name, ranges)
 }
 

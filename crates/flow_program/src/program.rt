@@ -1,9 +1,9 @@
 //! The table of a program.
-ghost use Rattle.std.specs.Prelude.{◌≡◌, ℕ, [], Some, IfOk, slice_get};
+ghost use Rattle.std.specs.Prelude.{◌≡◌, ℕ, Some, IfOk, slice_get};
 ghost use Rattle.bytecode_typing.specs.Lawful.{Lawful};
 ghost use Rattle.method_flow.specs.Flow.{Coded, IsFlowOf};
-ghost use Rattle.program_tables.specs.Numbers.{method_text};
-ghost use Rattle.program_tables.specs.Resolved.{at_method, resolved};
+ghost use Rattle.program_tables.specs.Resolved.{resolved};
+ghost use Rattle.method_names.specs.Written.{written_name};
 ghost use Rattle.bytecode_typing.specs.WellPlaced.{WellPlaced};
 ghost use Rattle.flow_program.specs.Names.{IsFirstNamed};
 
@@ -34,7 +34,7 @@ pub fn flow_of(alloc: Global, p: &Program) -> Result<FlowProgram, NoMemory>
     requires placed { WellPlaced (resolved p.now) }
     requires lawful { Lawful (resolved p.now) }
     ensures flow { IfOk result (IsFlowOf (resolved p.now)) }
-    ensures names { IfOk result (λ f. (m : ℕ) (k : Coded) → slice_get f.methods m ≡ Some k → k.name ≡ at_method p.now m [] (method_text p.now)) }
+    ensures names { IfOk result (λ f. (m : ℕ) (k : Coded) → slice_get f.methods m ≡ Some k → k.name ≡ written_name p.now m) }
 {
     methods_stand_by_number();
     let coded = coded_count(p);
@@ -47,7 +47,7 @@ pub fn flow_of(alloc: Global, p: &Program) -> Result<FlowProgram, NoMemory>
     Ok(FlowProgram::new(methods, targets, boot_of(p)))
 }
 
-/// The least number of a method of this name, which is its class's name, a dot, its own name and its descriptor.
+/// The least number of a method of this name, as it is written: its class's name, a dot, its own name and its descriptor.
 pub fn find_method(f: &FlowProgram, name: &[u8]) -> Option<u32>
     ensures { IsFirstNamed f.now name.now result }
 {

@@ -1,6 +1,6 @@
 -- In resolved classes two methods with code of one name are one.
-use Rattle.std.proofs.Common.{◌≡◌, ℕ, true, List, [], Option, Some, None, refl, sym, ap, ap₂, ◌∙◌, subst}
-use Rattle.std.specs.Prelude.{is_some, slice_get}
+use Rattle.std.proofs.Common.{◌≡◌, ◌≢◌, ℕ, true, List, [], ◌∷◌, ◌++◌, Option, Some, None, refl, sym, ap, ap₂, ◌∙◌, subst}
+use Rattle.std.specs.Prelude.{is_some, IsSome, slice_get}
 use Rattle.std.specs.Option.{option_map_or}
 use Rattle.std.proofs.lemmas.Bool.{false≢true}
 use Rattle.lists.proofs.Lemmas.{some_same}
@@ -10,7 +10,9 @@ use Rattle.class_rules.specs.Grammar.{IsClass}
 use Rattle.class_rules.specs.Rules.{IsRightMethod}
 use Rattle.bytecode_model.specs.Lists.{onto}
 use Rattle.bytecode_model.specs.Program.{Method, body_of}
-use Rattle.class_lookup.specs.Parts.{signature_of}
+use Rattle.class_pool.specs.Utf8.{utf8_bytes}
+use Rattle.class_pool.specs.Grammar.{text_at}
+use Rattle.class_lookup.specs.Parts.{name_of, signature_of}
 use Rattle.class_lookup.specs.Lookup.{Place, method_at}
 use Rattle.program_tables.specs.Numbers.{member_text, method_text}
 use Rattle.program_tables.specs.Resolved.{resolved, method_name}
@@ -71,3 +73,16 @@ names_are_one cs r m n h e same =
     let texts = sym (name_at cs m x.0 x.1) ∙ same ∙ name_at cs n y.0 y.1 in
     let place = one_place cs r x.1.place y.1.place x.0 y.0 x.1.method y.1.method texts in
     one_number cs m n y.1.place (x.1.number ∙ ap Some place) y.1.number
+
+-- and it has one that isn't empty, since it holds a dot
+dotted : (class rest : List ℕ) → class ++ 46 ∷ rest ≢ []
+dotted [] rest h = absurd (let e : 46 ∷ rest ≡ [] = h in cc)
+dotted (b ∷ class) rest h = absurd (let e : b ∷ (class ++ 46 ∷ rest) ≡ [] = h in cc)
+
+pub has_name : (cs : List ClassFile) (m : ℕ) → IsSome (body_of (resolved cs) m) → method_name cs m ≢ []
+has_name cs m h empty =
+    let x = found cs m h in
+    let method = x.1.method in
+    dotted (utf8_bytes (name_of method.owner))
+    (utf8_bytes (text_at method.owner.pool method.member.name) ++ utf8_bytes (text_at method.owner.pool method.member.descriptor))
+    (sym (name_at cs m x.0 x.1) ∙ empty)

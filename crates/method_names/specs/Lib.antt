@@ -1,1 +1,4 @@
 pub mod Names
+pub mod Written
+pub mod Laws
+pub mod Rows

@@ -3,20 +3,15 @@ use Rattle.std.proofs.Common.{◌≡◌, ℕ, ◌+◌, ◌<◌, List, [], ◌∷
 use Rattle.std.specs.List.{filter_map, cons_option}
 use Rattle.std.proofs.lemmas.Grind.{take_at_read}
 use Rattle.std.proofs.lemmas.List.Elements.{filter_map-append}
-use Rattle.method_sources.specs.Told.{line_at}
 
--- one item more
-mapped_more : {X Y : Type 0} (f : X → Option Y) (xs : List X) (x : X) → filter_map f (xs ++ x ∷ []) ≡ filter_map f xs ++ cons_option (f x) []
-mapped_more f xs x = filter_map-append f xs (x ∷ [])
+module _ {X : Type 0} (f : X → Option ℕ) (xs : List X) (i : ℕ) (d : X) (found new : List ℕ) (lt : i < length xs) (before : found ≡ filter_map f (take i xs)) where
+  -- one item more
+  mapped_more : filter_map f (take (i + 1) xs) ≡ filter_map f (take i xs) ++ cons_option (f (get_or xs i d)) []
+  mapped_more = ap (filter_map f) (take_at_read xs i d lt).1 ∙ filter_map-append f (take i xs) (get_or xs i d ∷ [])
 
-pub one_line : (lines : List (Option ℕ)) (places : List ℕ) (i : ℕ) (found new : List ℕ) (line : ℕ) → i < length places → found ≡ filter_map (line_at lines) (take i places) → new ≡ found ++ line ∷ []
-    → line_at lines (get_or places i 0) ≡ Some line → new ≡ filter_map (line_at lines) (take (i + 1) places)
-one_line lines places i found new line lt before put is =
-    put ∙ ap₂ (λ (a : List ℕ) (o : Option ℕ). a ++ cons_option o []) before (sym is)
-    ∙ sym (mapped_more (line_at lines) (take i places) (get_or places i 0)) ∙ ap (filter_map (line_at lines)) (sym (take_at_read places i 0 lt).1)
+  pub one_line : (line : ℕ) → new ≡ found ++ line ∷ [] → f (get_or xs i d) ≡ Some line → new ≡ filter_map f (take (i + 1) xs)
+  one_line line put is = put ∙ ap₂ (λ (a : List ℕ) (o : Option ℕ). a ++ cons_option o []) before (sym is) ∙ sym mapped_more
 
-pub no_line : (lines : List (Option ℕ)) (places : List ℕ) (i : ℕ) (found new : List ℕ) → i < length places → found ≡ filter_map (line_at lines) (take i places) → new ≡ found
-    → line_at lines (get_or places i 0) ≡ None → new ≡ filter_map (line_at lines) (take (i + 1) places)
-no_line lines places i found new lt before put is =
-    put ∙ before ∙ sym (append-nil (filter_map (line_at lines) (take i places))) ∙ ap (λ (o : Option ℕ). filter_map (line_at lines) (take i places) ++ cons_option o []) (sym is)
-    ∙ sym (mapped_more (line_at lines) (take i places) (get_or places i 0)) ∙ ap (filter_map (line_at lines)) (sym (take_at_read places i 0 lt).1)
+  pub no_line : new ≡ found → f (get_or xs i d) ≡ None → new ≡ filter_map f (take (i + 1) xs)
+  no_line put is =
+      put ∙ before ∙ sym (append-nil (filter_map f (take i xs))) ∙ ap (λ (o : Option ℕ). filter_map f (take i xs) ++ cons_option o []) (sym is) ∙ sym mapped_more

@@ -1,5 +1,5 @@
--- Which line of which file an instruction was compiled from, as far as a text of bounds by lines can name it.
-use Rattle.std.specs.Prelude.{◌≡◌, ℕ, List, Contains, Option, Some, None, option_map, slice_get, if◌then◌else◌}
+-- Which line of which file an instruction was compiled from, by the name of the file as it is written in lines.
+use Rattle.std.specs.Prelude.{◌≡◌, ℕ, List, Contains, Option, Some, None, option_map, slice_get}
 use Rattle.class_pool.specs.declared.class.ClassFile.{ClassFile}
 use Rattle.class_pool.specs.declared.class.Code.{Code}
 use Rattle.class_pool.specs.Found.{code_of}
@@ -8,15 +8,11 @@ use Rattle.program_tables.specs.Resolved.{at_method}
 use Rattle.bytecode_model.specs.Lists.{onto}
 use Rattle.line_tables.specs.Lines.{line_of}
 use Rattle.line_tables.specs.Source.{source_file_of}
-use Rattle.source_bounds.specs.Unbroken.{is_unbroken}
+use Rattle.method_names.specs.Written.{written}
 
--- a file whose name holds no space and no line feed
-abbrev pub unbroken : List ℕ → Option (List ℕ)
-unbroken file = if is_unbroken file then Some file else None
-
--- the file of a class, where a line can name it
+-- the file of a class, as its name is written
 abbrev pub file_of : ClassFile → Option (List ℕ)
-file_of c = onto (source_file_of c) unbroken
+file_of c = option_map written (source_file_of c)
 
 abbrev pub class_of : List ClassFile → (method : ℕ) → Option ClassFile
 class_of cs m = at_method cs m None (λ p. slice_get cs p.0)

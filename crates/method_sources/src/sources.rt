@@ -1,5 +1,5 @@
 //! The file and the lines that the places of a method were compiled from.
-ghost use Rattle.std.specs.Prelude.{◌≡◌, ℕ, ◌<◌, length, IfOk, option_map};
+ghost use Rattle.std.specs.Prelude.{◌≡◌, ℕ, ◌<◌, ◌≤◌, length, IfOk, option_map};
 ghost use Rattle.std.specs.List.{filter_map};
 ghost use Rattle.std.specs.Option.{option_copied};
 ghost use Rattle.class_lookup.specs.Lookup.{method_at};
@@ -12,29 +12,23 @@ ghost use Rattle.method_sources.specs.Told.{line_at, source_by, IsSourceOf};
 use base::NoMemory;
 use class_pool::{ClassFile, Code};
 use line_tables::{lines_of, source_file};
+use method_names::write_name;
 use resolved_program::Program;
-use source_bounds::is_unbroken;
 use std::alloc::Global;
 
-/// The file of a method's class, where a line can name it, and the lines of the places of its code.
+/// The file of a method's class, as its name is written, and the lines of the places of its code.
 #[derive(Drop)]
 pub struct MethodSource {
     pub file: Vec<u8>,
     pub lines: Vec<Option<u16>>,
 }
 
-/// The file of a class, where a line can name it.
+/// The file of a class, as its name is written.
 pub fn file_of(alloc: Global, class: &ClassFile) -> Result<Option<Vec<u8>>, NoMemory>
     ensures { IfOk result (λ file. option_map (λ bytes. bytes.items) file ≡ file_of class.now) }
 {
     match source_file(alloc, class)? {
-        Some(file) => {
-            if is_unbroken(&file) {
-                Ok(Some(file))
-            } else {
-                Ok(None)
-            }
-        }
+        Some(file) => Ok(Some(write_name(alloc, file)?)),
         None => Ok(None),
     }
 }
@@ -61,6 +55,7 @@ fn source_in(
     ensures file { IfOk result (λ source. (s : MethodSource) → source ≡ Some s → file_of class.now ≡ Some s.file.items) }
     ensures lines { IfOk result (λ source. (p : ℕ) → p < length code.now.code
         → source_by source p ≡ onto (file_of class.now) (λ file. option_map (λ line. (file, line)) (line_of class.now.pool code.now p))) }
+    ensures beyond { IfOk result (λ source. (p : ℕ) → length code.now.code ≤ p → source_by source p ≡ None) }
 {
     let Some(file) = file_of(alloc, class)? else {
         return Ok(None);
@@ -110,6 +105,19 @@ pub fn source_at(source: &Option<MethodSource>, place: u32) -> Option<(&[u8], u3
         },
         None => None,
     }
+}
+
+/// The lines of all places that have one.
+pub fn all_lines(alloc: Global, lines: &[Option<u16>]) -> Result<Vec<u32>, NoMemory>
+    ensures { IfOk result (λ found. found.items ≡ filter_map (λ line. line) lines.now) }
+{
+    let mut found = Vec::new(alloc);
+    for line in lines {
+        if let Some(line) = line {
+            found.push(u32::from(*line))?;
+        }
+    }
+    Ok(found)
 }
 
 /// The lines of these places, of those that have one.

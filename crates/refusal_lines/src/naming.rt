@@ -18,6 +18,7 @@ use class_lookup::parts::name_of;
 use class_pool::ClassFile;
 use class_pool::utf8::text_bytes;
 use core_classes::core_classes;
+use method_names::write_name;
 use program_resolution::ProgramRefusal;
 use program_tables::Why;
 use std::alloc::Global;
@@ -99,7 +100,7 @@ fn entry_told(
     }
 }
 
-/// What the line of a refusal of these files names, in the bytes of its name there (4.4.7): of an entry that isn't resolved since a
+/// What is written of what the line of a refusal of these files names (4.4.7): of an entry that isn't resolved since a
 /// class isn't there, the first such class; of any other the class, or the class, a dot, the name and the descriptor; and the class of
 /// a file whose name is taken. Nothing for other refusals.
 ///
@@ -116,11 +117,13 @@ pub fn name_in(
     match refusal {
         ProgramRefusal::Duplicate(file, _) => {
             let classes = read_files(alloc, files)?;
-            class_named(alloc, &classes, file)
+            let name = class_named(alloc, &classes, file)?;
+            write_name(alloc, name)
         }
         ProgramRefusal::Unresolved(file, entry, why) => {
             let classes = read_files(alloc, files)?;
-            entry_told(alloc, &classes, file, entry, why)
+            let name = entry_told(alloc, &classes, file, entry, why)?;
+            write_name(alloc, name)
         }
         _ => Ok(Vec::new(alloc)),
     }

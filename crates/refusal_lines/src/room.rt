@@ -19,13 +19,13 @@ fn longest_name(program: &Program) -> usize
     longest
 }
 
-/// Room for the bytes of the name of any class of the program, at most three a unit. The only error is that there was no
+/// Room for what is written of the name of any class of the program, at most four bytes a unit. The only error is that there was no
 /// memory.
 pub fn name_room(alloc: Global, program: &Program) -> Result<Vec<u8>, NoMemory>
     ensures room { IfOk result (λ room. HasRoom program.now (vec_capacity room)) }
     ensures empty { IfOk result (λ room. room.items ≡ []) }
 {
-    match longest_name(program).checked_mul(3) {
+    match longest_name(program).checked_mul(4) {
         Some(bytes) => Ok(Vec::with_capacity(alloc, bytes)?),
         None => Err(NoMemory),
     }

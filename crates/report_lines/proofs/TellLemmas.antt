@@ -20,7 +20,8 @@ use Rattle.report_rows.specs.declared.rows.ReportTotals.{ReportTotals}
 use Rattle.report_rows.specs.Rows.{cycles_of}
 use Rattle.report_lines.specs.Entries.{key_of, same_key, spot_by, rows_at, IsOfAll, AreEntries}
 use Rattle.report_lines.specs.Joining.{AreJoined}
-use Rattle.program_tables.specs.Resolved.{resolved, method_name}
+use Rattle.program_tables.specs.Resolved.{resolved}
+use Rattle.method_names.specs.Written.{written_name}
 use Rattle.report_rows.specs.Rows.{AreOfCode}
 use Rattle.report_lines.specs.Report.{IsReportText}
 use Rattle.report_lines.specs.Text.{entry_line, entry_text, other_lines, report_lines, IsTextBy}
@@ -143,12 +144,12 @@ module _ (by_number : MethodsStandByNumber) (cs : List ClassFile) (xs : List Met
       let body = body_is by_number cs r.method b.0 b.1 in
       told_source xs r.method x.0 x.1 r.place ∙ (told.each r.method x.0 x.1).source.lines body.code body.code_is r.place (omega (arith, b.2, ap length body.same))
 
-  name_is : (r : ReportRow) → Contains rows r → name_told xs r.method ≡ method_name cs r.method
+  name_is : (r : ReportRow) → Contains rows r → name_told xs r.method ≡ written_name cs r.method
   name_is r c = let x = got xs r.method (row_known r c) in told_name xs r.method x.0 x.1 ∙ (told.each r.method x.0 x.1).name
 
   -- the text by what is told is the program's
   pub report_is : (totals : ReportTotals) (text : List ℕ) → IsTextBy (source_told xs) (name_told xs) rows totals text → IsReportText cs rows totals text
-  report_is totals text h = text_same (source_told xs) (source_at cs) (name_told xs) (method_name cs) rows source_is name_is totals text h
+  report_is totals text h = text_same (source_told xs) (source_at cs) (name_told xs) (written_name cs) rows source_is name_is totals text h
 
 -- ---- where a call was the last
 

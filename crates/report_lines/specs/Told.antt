@@ -3,14 +3,14 @@ use Rattle.std.specs.Prelude.{◌≡◌, ℕ, List, [], length, Option, Some, sl
 use Rattle.std.specs.Option.{option_map_or}
 use Rattle.lists.specs.Lists.{onto}
 use Rattle.class_pool.specs.declared.class.ClassFile.{ClassFile}
-use Rattle.program_tables.specs.Resolved.{method_name}
+use Rattle.method_names.specs.Written.{written_name}
 use Rattle.method_sources.specs.Told.{source_by, IsSourceOf}
 use Rattle.program_tables.specs.Numbers.{methods_by_number}
 use Rattle.report_lines.specs.declared.methods.MethodText.{MethodText}
 
--- the name and the source are those of the method
+-- the name, as it is written, and the source are those of the method
 pub record IsTextOf (cs : List ClassFile) (m : ℕ) (x : MethodText) : Type 0 where
-  pub name : x.name.items ≡ method_name cs m
+  pub name : x.name.items ≡ written_name cs m
   pub source : IsSourceOf cs m x.source
 
 -- those of all methods, by number

@@ -4,11 +4,12 @@ ghost use Rattle.program_tables.specs.Numbers.{methods_by_number};
 ghost use Rattle.report_lines.specs.Told.{AreTextsOf, IsTextOf};
 
 use base::NoMemory;
+use method_names::written_name;
 use method_sources::{MethodSource, source_of};
 use resolved_program::Program;
 use std::alloc::Global;
 
-/// The name of a method, and its source where it is told.
+/// The name of a method as it is written, and its source where it is told.
 #[derive(Drop)]
 pub(crate) struct MethodText {
     pub(crate) name: Vec<u8>,
@@ -20,7 +21,7 @@ fn method_text(alloc: Global, program: &Program, number: u32) -> Result<MethodTe
     requires { number < length (methods_by_number program.now) }
     ensures { IfOk result (IsTextOf program.now number) }
 {
-    let name = program.method_name(alloc, number)?;
+    let name = written_name(alloc, program, number)?;
     let source = source_of(alloc, program, number)?;
     Ok(MethodText { name, source })
 }

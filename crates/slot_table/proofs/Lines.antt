@@ -1,16 +1,20 @@
 -- A line `slot NAME LENGTH`, part by part.
-use Rattle.std.proofs.Common.{◌≡◌, ◌≢◌, ℕ, ◌^◌, ◌<◌, true, false, List, ◌∷◌, ◌++◌, take, drop, All, decimal, refl, sym, ◌∙◌, ap, ap₂, subst, arith}
+use Rattle.std.proofs.Common.{◌≡◌, ◌≢◌, ℕ, ◌^◌, ◌<◌, true, false, List, [], ◌∷◌, ◌++◌, take, drop, All, decimal, refl, sym, ◌∙◌, ap, ap₂, subst, arith}
 use Rattle.std.specs.Prelude.{codes, nat_eq}
 use Rattle.std.proofs.lemmas.Bool.{true≢false}
 use Rattle.std.proofs.lemmas.List.{append_cancel_left, take_at, take-append-drop}
+use Rattle.std.specs.List.{AllByRecursion}
+use Rattle.std.proofs.lemmas.List.Elements.{All-from_recursion}
 use Rattle.std.proofs.lemmas.Fmt.{decimal_injective}
+use Rattle.method_names.proofs.Escapes.{written_high}
 use lib.Pointwise.{pointwise, bytes_decides}
 use Rattle.ascii_text.specs.Number.{IsDecimalNumber, value_of}
 use Rattle.ascii_text.proofs.NumberLemmas.{HasOneSpelling-decimal}
 use Rattle.slot_table.specs.declared.slot.Slot.{Slot}
-use Rattle.slot_table.specs.Slots.{name_text}
+use Rattle.method_names.specs.Written.{written}
+use Rattle.slot_table.specs.Slots.{name_text, slot_word, IsRightSlot}
 use Rattle.slot_table.specs.Grammar.{IsSlotLine}
-use Rattle.slot_table.specs.Parts.{IsCut, ArePartsOf, IsNameOf}
+use Rattle.slot_table.specs.Parts.{IsCut, ArePartsOf, IsNameOf, IsWordOf}
 use Rattle.slot_table.proofs.Cuts.{IsOther, no_cut, one_cut}
 
 -- behind the word
@@ -66,33 +70,43 @@ are_parts line rest before behind n is cut number value some fits = record {
 
 -- ---- the slot
 
-name_is : (text class method : List ℕ) (n : ℕ) → IsNameOf text class method → text ≡ name_text record { class = class; method = method; length = n }
+pub name_is : (text class method : List ℕ) (n : ℕ) → IsNameOf text class method → text ≡ name_text record { class = class; method = method; length = n }
 name_is text class method n h =
     h.text_is ∙ ap₂ (λ (a b : List ℕ). a ++ (codes "." ++ (b ++ codes "()V"))) h.class_is.text.bytes_are h.method_is.text.bytes_are
 
-pub is_slot : (line name class method : List ℕ) (n : ℕ) → ArePartsOf line name n → IsNameOf name class method → IsSlotLine line record { class = class; method = method; length = n }
-is_slot line name class method n parts h =
-    let same = name_is name class method n h in
+pub is_slot : (line word class method : List ℕ) (n : ℕ) → ArePartsOf line word n → IsWordOf word class method → IsSlotLine line record { class = class; method = method; length = n }
+is_slot line word class method n parts w =
+    let h = w.name in
+    let same = sym w.written_so ∙ ap written (name_is w.text class method n h) in
     record {
       line_is = parts.line_is ∙ ap (λ (t : List ℕ). codes "slot " ++ (t ++ (codes " " ++ decimal n))) same;
-      no_space = subst (All (λ x. x ≢ 32)) same parts.no_space;
       right = record { class = h.class_is.class; class_fits = h.class_is.text.fits; method = h.method_is.method; method_fits = h.method_is.text.fits; some = parts.some; fits = parts.fits };
     }
 
-pub slot_parts : (line : List ℕ) (s : Slot) → IsSlotLine line s → ArePartsOf line (name_text s) s.length
-slot_parts line s h = record { line_is = h.line_is; no_space = h.no_space; some = h.right.some; fits = h.right.fits }
+word_has_no_space : (name : List ℕ) → All (λ x. x ≢ 32) (written name)
+word_has_no_space name = All-from_recursion (λ x. x ≢ 32) (written name) (each_other (written name) (written_high name))
+  where
+    each_other : (text : List ℕ) → AllByRecursion (λ x. 32 < x) text → AllByRecursion (λ x. x ≢ 32) text
+    each_other [] h = tt
+    each_other (x ∷ text) h = ((λ e. let high : 32 < x = h.0 in omega (arith, e)), each_other text h.1)
 
-pub slot_name : (line : List ℕ) (s : Slot) → IsSlotLine line s → IsNameOf (name_text s) s.class s.method
-slot_name line s h = record {
+pub slot_parts : (line : List ℕ) (s : Slot) → IsSlotLine line s → ArePartsOf line (slot_word s) s.length
+slot_parts line s h = record { line_is = h.line_is; no_space = word_has_no_space (name_text s); some = h.right.some; fits = h.right.fits }
+
+pub slot_name : (s : Slot) → IsRightSlot s → IsNameOf (name_text s) s.class s.method
+slot_name s right = record {
   class_text = _;
   method_text = _;
   text_is = refl;
-  class_is = record { text = record { bytes_are = refl; fits = h.right.class_fits }; class = h.right.class };
-  method_is = record { text = record { bytes_are = refl; fits = h.right.method_fits }; method = h.right.method };
+  class_is = record { text = record { bytes_are = refl; fits = right.class_fits }; class = right.class };
+  method_is = record { text = record { bytes_are = refl; fits = right.method_fits }; method = right.method };
 }
 
+pub slot_word_is : (line : List ℕ) (s : Slot) → IsSlotLine line s → IsWordOf (slot_word s) s.class s.method
+slot_word_is line s h = record { text = name_text s; name = slot_name s h.right; written_so = refl }
+
 pub no_parts : (line : List ℕ) → ((name : List ℕ) (n : ℕ) → ¬ ArePartsOf line name n) → (s : Slot) → ¬ IsSlotLine line s
-no_parts line none s h = none (name_text s) s.length (slot_parts line s h)
+no_parts line none s h = none (slot_word s) s.length (slot_parts line s h)
 
 -- a line has one name and one length
 pub one_parts : (line a b : List ℕ) (m n : ℕ) → ArePartsOf line a m → ArePartsOf line b n → (a ≡ b) × (m ≡ n)
@@ -100,7 +114,7 @@ one_parts line a b m n x y =
     let cut = cut_parts line (rest_of a m) a (decimal m) b n x.line_is (rest_cut line a m x) y in
     (cut.0, decimal_injective m n x.fits y.fits cut.1)
 
-pub other_name : (line name : List ℕ) (n : ℕ) → ArePartsOf line name n → ((class method : List ℕ) → ¬ IsNameOf name class method) → (s : Slot) → ¬ IsSlotLine line s
-other_name line name n parts none s h =
-    let same : name_text s ≡ name = (one_parts line (name_text s) name s.length n (slot_parts line s h) parts).0 in
-    none s.class s.method (subst (λ (t : List ℕ). IsNameOf t s.class s.method) same (slot_name line s h))
+pub other_slot_word : (line word : List ℕ) (n : ℕ) → ArePartsOf line word n → ((class method : List ℕ) → ¬ IsWordOf word class method) → (s : Slot) → ¬ IsSlotLine line s
+other_slot_word line word n parts none s h =
+    let same : slot_word s ≡ word = (one_parts line (slot_word s) word s.length n (slot_parts line s h) parts).0 in
+    none s.class s.method (subst (λ (t : List ℕ). IsWordOf t s.class s.method) same (slot_word_is line s h))

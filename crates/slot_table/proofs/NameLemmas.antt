@@ -9,7 +9,8 @@ use Rattle.std.proofs.lemmas.List.Elements.{All-nil, All-cons, All-append}
 use lib.Pointwise.{pointwise, bytes_decides}
 use Rattle.class_pool.specs.Utf8.{is_single, unit_bytes, utf8_bytes, AreUnits}
 use Rattle.descriptors.specs.Names.{is_plain, is_path, is_class_name, is_method_name}
-use Rattle.slot_table.specs.Parts.{IsCut, IsTextOf, IsClassText, IsMethodText, IsNameOf}
+use Rattle.method_names.specs.Written.{written, name_in}
+use Rattle.slot_table.specs.Parts.{IsCut, IsTextOf, IsClassText, IsMethodText, IsNameOf, IsWordOf}
 use Rattle.base.specs.declared.fault.FormatFault.{FormatFault}
 use Rattle.base.specs.declared.fault.FormatFault.TheVariants as formats
 use Rattle.base.specs.Reading.{Gives}
@@ -125,3 +126,17 @@ no_class bytes text is other name named = true≢false (sym named.class ∙ ap i
 
 pub no_method : (bytes text : List ℕ) → IsTextOf bytes text → is_method_name text ≡ false → (name : List ℕ) → ¬ IsMethodText bytes name
 no_method bytes text is other name named = true≢false (sym named.method ∙ ap is_method_name (one_text bytes name text named.text is) ∙ other)
+
+-- ---- a word
+
+word_names : (word text class method : List ℕ) → ((name : List ℕ) → name_in (written name) ≡ name) → text ≡ name_in word → IsWordOf word class method → IsNameOf text class method
+word_names word text class method read is w =
+    subst (λ (t : List ℕ). IsNameOf t class method) (sym (is ∙ ap name_in (sym w.written_so) ∙ read w.text)) w.name
+
+pub word_refused : {A : Type 0} (word text : List ℕ) (r : Result A FormatFault) → ((name : List ℕ) → name_in (written name) ≡ name) → text ≡ name_in word
+    → IfErr r (λ fault. OnBad fault ((class : List ℕ) (method : List ℕ) → ¬ IsNameOf text class method))
+    → IfErr r (λ fault. OnBad fault ((class : List ℕ) (method : List ℕ) → ¬ IsWordOf word class method))
+word_refused word text (Ok x) read is h = tt
+word_refused word text (Err fault) read is h =
+    on_bad fault ((class : List ℕ) (method : List ℕ) → ¬ IsNameOf text class method) ((class : List ℕ) (method : List ℕ) → ¬ IsWordOf word class method)
+    (λ none class method w. none class method (word_names word text class method read is w)) h

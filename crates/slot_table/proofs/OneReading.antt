@@ -7,7 +7,8 @@ use Rattle.ascii_text.specs.Line.{lines_of}
 use Rattle.slot_table.specs.declared.slot.Slot.{Slot}
 use Rattle.slot_table.specs.declared.table.TableFault.{TableFault}
 use Rattle.slot_table.specs.declared.table.TableFault.TheVariants as faults
-use Rattle.slot_table.specs.Slots.{name_text}
+use Rattle.method_names.proofs.ReadBack.{alike_are_one}
+use Rattle.slot_table.specs.Slots.{name_text, slot_word}
 use Rattle.slot_table.specs.Grammar.{IsSilentLine, slot_line, IsSlotLine, SaysSlot, IsNoSlotLine, GiveSlots, IsSlotCount, IsTableRead, IsTableRefused}
 use Rattle.slot_table.specs.Parts.{IsNameOf}
 use Rattle.slot_table.specs.Laws.{GivesOne, ReadIsNotRefused, OneCause, ReadIsATable}
@@ -36,8 +37,9 @@ same_slot s t class method long =
 
 one_slot : (line : List ℕ) (s t : Slot) → IsSlotLine line s → IsSlotLine line t → s ≡ t
 one_slot line s t x y =
-    let parts = one_parts line (name_text s) (name_text t) s.length t.length (slot_parts line s x) (slot_parts line t y) in
-    let names = one_name (name_text s) s.class s.method t.class t.method (slot_name line s x) (subst (λ (n : List ℕ). IsNameOf n t.class t.method) (sym parts.0) (slot_name line t y)) in
+    let parts = one_parts line (slot_word s) (slot_word t) s.length t.length (slot_parts line s x) (slot_parts line t y) in
+    let same : name_text s ≡ name_text t = alike_are_one (name_text s) (name_text t) parts.0 in
+    let names = one_name (name_text s) s.class s.method t.class t.method (slot_name s x.right) (subst (λ (n : List ℕ). IsNameOf n t.class t.method) (sym same) (slot_name t y.right)) in
     same_slot s t names.0 names.1 parts.1
 
 not_silent : (line : List ℕ) (s : Slot) → IsSlotLine line s → IsSilentLine line → ⊥

@@ -1,5 +1,5 @@
 -- The text of a table of slots, line by line.
-use Rattle.std.specs.Prelude.{◌≡◌, ◌≢◌, ℕ, suc, ◌≤◌, List, [], ◌∷◌, ◌++◌, length, codes, decimal, All, Option, Some, None}
+use Rattle.std.specs.Prelude.{◌≡◌, ℕ, suc, ◌≤◌, List, [], ◌∷◌, ◌++◌, length, codes, decimal, Option, Some, None}
 use Rattle.std.specs.Option.{option_to_list}
 use Rattle.ascii_text.specs.Line.{lines_of}
 use Rattle.base.specs.declared.fault.FormatFault.{FormatFault}
@@ -7,7 +7,7 @@ use Rattle.base.specs.declared.fault.FormatFault.TheVariants as formats
 use Rattle.slot_table.specs.declared.slot.Slot.{Slot}
 use Rattle.slot_table.specs.declared.table.TableFault.{TableFault}
 use Rattle.slot_table.specs.declared.table.TableFault.TheVariants.{Line, Count, NoMemory}
-use Rattle.slot_table.specs.Slots.{name_text, IsRightSlot}
+use Rattle.slot_table.specs.Slots.{slot_word, IsRightSlot}
 
 -- ---- a line
 
@@ -18,12 +18,11 @@ IsSilentLine (byte ∷ bytes) = byte ≡ 35
 
 -- `slot NAME LENGTH`
 abbrev pub slot_line : Slot → List ℕ
-slot_line s = codes "slot " ++ (name_text s ++ (codes " " ++ decimal s.length))
+slot_line s = codes "slot " ++ (slot_word s ++ (codes " " ++ decimal s.length))
 
--- the line is that of a right slot, in whose name is no space
+-- the line is that of a right slot
 pub record IsSlotLine (line : List ℕ) (s : Slot) : Type 0 where
   pub line_is : line ≡ slot_line s
-  pub no_space : All (λ byte. byte ≢ 32) (name_text s)
   pub right : IsRightSlot s
 
 -- what a line says: nothing, or a slot

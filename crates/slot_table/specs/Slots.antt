@@ -4,6 +4,7 @@ use Rattle.std.specs.List.{AllByRecursion}
 use Rattle.class_pool.specs.Utf8.{utf8_bytes}
 use Rattle.class_rules.specs.Rules.{IsClassName, IsMethodName}
 use Rattle.class_making.specs.Right.{IsPoolText}
+use Rattle.method_names.specs.Written.{written}
 use Rattle.slot_table.specs.declared.slot.Slot.{Slot}
 
 abbrev pub length_of : Slot → ℕ
@@ -12,6 +13,10 @@ length_of s = s.length
 -- Class.name()V, in the bytes of the class's name and of the method's (4.4.7)
 abbrev pub name_text : Slot → List ℕ
 name_text s = utf8_bytes s.class ++ (codes "." ++ (utf8_bytes s.method ++ codes "()V"))
+
+-- as it is written
+abbrev pub slot_word : Slot → List ℕ
+slot_word s = written (name_text s)
 
 -- The name of a class (4.2.1), that of a method (4.2.2), each of which a pool can hold, and a length of 64 bits that isn't 0.
 pub record IsRightSlot (s : Slot) : Type 0 where

@@ -4,7 +4,7 @@ ghost use Rattle.slot_table.specs.declared.slot.Slot.{Slot};
 ghost use Rattle.slot_table.specs.Grammar.{SaysSlot, IsSilentLine, IsSlotLine, IsNoSlotLine, OnBad};
 ghost use Rattle.slot_table.specs.Parts.{IsCut, ArePartsOf};
 
-use crate::name::read_name;
+use crate::name::read_word;
 use crate::slot::Slot;
 use ascii_text::read_u64;
 use base::FormatFault;
@@ -37,7 +37,7 @@ fn read_slot(alloc: Global, line: &[u8]) -> Result<Slot, FormatFault>
     let Some((name, length)) = parts(line) else {
         return Err(FormatFault::Bad);
     };
-    let (class, method) = read_name(alloc, name)?;
+    let (class, method) = read_word(alloc, name)?;
     Ok(Slot {
         class,
         method,

@@ -1,20 +1,35 @@
 //! The name of a slot's method.
 ghost use Rattle.std.specs.Prelude.{ℕ, List, IfOk, IfErr};
 ghost use Rattle.slot_table.specs.Grammar.{OnBad};
-ghost use Rattle.slot_table.specs.Parts.{IsTextOf, IsClassText, IsMethodText, IsNameOf};
+ghost use Rattle.slot_table.specs.Parts.{IsTextOf, IsClassText, IsMethodText, IsNameOf, IsWordOf};
 
 use crate::line::cut;
 use crate::units::units_of;
 use base::FormatFault;
 use class_pool::Units;
 use descriptors::names::{is_class_name, is_method_name};
+use method_names::laws::written_are_read;
+use method_names::read_name;
 use std::alloc::Global;
 
 /// The most bytes of a text in a constant pool (JVM Specification SE 8, 4.4.7).
 const MOST_BYTES: usize = 65535;
 
+/// The class and the method of a name `Class.name()V` that is written so.
+pub(crate) fn read_word(alloc: Global, word: &[u8]) -> Result<(Units, Units), FormatFault>
+    ensures named { IfOk result (λ r. IsWordOf word.now r.0 r.1) }
+    ensures bad { IfErr result (λ fault. OnBad fault ((class : List ℕ) (method : List ℕ) → ¬ IsWordOf word.now class method)) }
+{
+    // The law is for the proof.
+    written_are_read();
+    match read_name(alloc, word) {
+        Ok(name) => parts_of(alloc, &name),
+        Err(_) => Err(FormatFault::NoMemory),
+    }
+}
+
 /// The class and the method of a name `Class.name()V`.
-pub(crate) fn read_name(alloc: Global, text: &[u8]) -> Result<(Units, Units), FormatFault>
+fn parts_of(alloc: Global, text: &[u8]) -> Result<(Units, Units), FormatFault>
     ensures named { IfOk result (λ r. IsNameOf text.now r.0 r.1) }
     ensures bad { IfErr result (λ fault. OnBad fault ((class : List ℕ) (method : List ℕ) → ¬ IsNameOf text.now class method)) }
 {

@@ -11,7 +11,6 @@ mod line;
 mod parts;
 mod site;
 mod subject;
-mod unbroken;
 
 ghost use Rattle.std.specs.Prelude.{◌≡◌, ◌++◌, [], ◌∷◌, None, OnOk, IfOk, IfErr, ◌≤◌, length, slice_get, option_map};
 ghost use Rattle.source_bounds.specs.Notes.{AtLine, AtPlace, bound_in};
@@ -27,7 +26,6 @@ use std::alloc::Global;
 use std::marker::Model;
 pub use subject::{Note, SubjectRef};
 use thiserror::Error;
-pub use unbroken::is_unbroken;
 
 /// Why a text gives no bounds.
 #[derive(Debug, Drop, Error)]

@@ -1,6 +1,6 @@
 -- What is gathered, one method more at a time.
-use Rattle.std.proofs.Common.{◌≡◌, ◌⊎◌, ◌↔◌, ℕ, zero, suc, ◌+◌, ◌<◌, List, [], ◌∷◌, ◌++◌, length, Contains, refl, sym, ◌∙◌, ap, ap₂, subst, arith, Option, Some, None, inl, inr, append-nil}
-use Rattle.std.specs.Prelude.{slice_get, flat_map, IsSome, if◌then◌else◌, Result, Ok, Err, OnOk}
+use Rattle.std.proofs.Common.{◌≡◌, ◌≢◌, ◌⊎◌, ◌↔◌, ℕ, zero, suc, ◌+◌, ◌<◌, List, [], ◌∷◌, ◌++◌, length, Contains, refl, sym, ◌∙◌, ap, ap₂, subst, arith, Option, Some, None, inl, inr, append-nil}
+use Rattle.std.specs.Prelude.{slice_get, flat_map, IsSome, Result, Ok, Err, OnOk}
 use Rattle.std.specs.List.{concat, filter_map, cons_option}
 use Rattle.std.proofs.lemmas.Bool.{cases_lt}
 use Rattle.std.proofs.lemmas.List.{length-append}
@@ -9,25 +9,27 @@ use Rattle.lists.proofs.Lemmas.{none≢some, some_same}
 use Rattle.lists.specs.Members.{at_head, in_tail, cons_cases, nil_contains}
 use Rattle.class_pool.specs.declared.class.ClassFile.{ClassFile}
 use Rattle.bytecode_model.specs.Program.{body_of}
-use Rattle.program_tables.specs.Resolved.{resolved, method_name}
+use Rattle.program_tables.specs.Resolved.{resolved}
+use Rattle.method_names.specs.Written.{written_name}
 use Rattle.method_flow.specs.Flow.{Flow, IsFlowOf}
 use Rattle.loop_rules.specs.declared.found.FoundLoop.{FoundLoop}
 use Rattle.source_bounds.specs.Notes.{Subject, AtLine, AtPlace, Note}
 use Rattle.bound_causes.specs.Shapes.{IsShape}
 use Rattle.bound_causes.specs.declared.shapes.Shape.{Shape}
 use Rattle.bound_causes.specs.declared.shapes.Shape.TheVariants.{Irreducible, Reducible}
-use Rattle.answer_lines.specs.LoopLine.{is_nameable}
 use Rattle.method_sources.specs.declared.sources.MethodSource.{MethodSource}
 use Rattle.source_headers.specs.declared.methods.MethodLoops.{MethodLoops}
 use Rattle.source_headers.specs.declared.gathering.Gathered.{Gathered}
 use Rattle.method_sources.specs.Sources.{source_at, IsFileOf}
-use Rattle.source_headers.specs.Headers.{found_at, header_at, header_lines, named_lines, unnamed_lines, method_lines, IsMethodText}
+use Rattle.source_headers.specs.Headers.{found_at, header_at, header_lines, method_lines, IsMethodText}
 use Rattle.source_headers.specs.Straying.{MayBeBounded, IsHeaderAt, IsStray}
 use Rattle.source_headers.specs.Files.{AreMethodTexts}
 use Rattle.source_headers.specs.Known.{KnownSites, IsWith}
 use Rattle.method_sources.specs.Told.{source_by}
-use Rattle.source_headers.specs.Told.{headed_places, header_by, named_by, lines_by, IsToldOf}
-use Rattle.source_headers.specs.Gathered.{IsNameOf, IsPlaceOf, IsLineOf, AreBelow, AreFiles, AreGathered, IsLineBy, AddsLines, AddsMethod, IsLacking, AreKnown}
+use Rattle.report_rows.specs.Rows.{IsCodePlace}
+use Rattle.bound_rules.specs.Bounding.{IsLeftWith}
+use Rattle.source_headers.specs.Told.{headed_places, header_by, lines_by, IsToldPlace, IsToldOf}
+use Rattle.source_headers.specs.Gathered.{IsNameOf, IsPlaceOf, IsLineOf, AreBelow, AreFiles, AreGathered, IsLineBy, IsNameBy, AddsLines, AddsPlaces, AddsMethod, IsLacking, AreKnown}
 
 -- ---- lists
 
@@ -115,18 +117,13 @@ module _ {X : Type 0} (Of : ℕ → X → Type 0) where
 
 -- ---- the lines of a method
 
-named_same : (cs : List ClassFile) (notes : List Note) (left found : List FoundLoop) (m : ℕ) (name : List ℕ) (source : Option MethodSource) (shape : Shape)
-    → ((p : ℕ) → Contains (headed_places shape) p → source_by source p ≡ source_at cs m p) → ((p : ℕ) → found_at left m p ≡ found_at found m p)
-    → named_by notes left m name source shape ≡ named_lines cs notes found m name shape
-named_same cs notes left found m name source (Irreducible nodes) told same = refl
-named_same cs notes left found m name source (Reducible places) told same =
+lines_same : (cs : List ClassFile) (notes : List Note) (left found : List FoundLoop) (m : ℕ) (name : List ℕ) (source : Option MethodSource) (shape : Shape)
+    → ((p : ℕ) → IsToldPlace (resolved cs) m shape p → source_by source p ≡ source_at cs m p) → ((p : ℕ) → found_at left m p ≡ found_at found m p)
+    → lines_by notes left m name source shape ≡ method_lines cs notes found m name shape
+lines_same cs notes left found m name source (Irreducible nodes) told same = refl
+lines_same cs notes left found m name source (Reducible places) told same =
     flat_map_same (λ p. header_lines notes name (header_by source left m p)) (λ p. header_lines notes name (header_at cs found m p)) places.items
     (λ p c. ap₂ (λ (s : Option (List ℕ × ℕ)) (n : Option ℕ). header_lines notes name (record { place = p; source = s; found = n })) (told p c) (same p))
-
-lines_same : (cs : List ClassFile) (notes : List Note) (left found : List FoundLoop) (m : ℕ) (name : List ℕ) (x : MethodLoops) → IsToldOf cs m x → ((p : ℕ) → found_at left m p ≡ found_at found m p)
-    → lines_by notes left m name x ≡ method_lines cs notes found m name x.shape
-lines_same cs notes left found m name x told same =
-    ap (λ (t : List ℕ). if is_nameable name then t else unnamed_lines m x.shape) (named_same cs notes left found m name x.source x.shape told.source same)
 
 -- ---- where a method heads loops
 
@@ -136,6 +133,36 @@ places_are cs m x told bounded p c = by x.shape told.shape c
     by : (s : Shape) → IsShape (resolved cs) m s → Contains (headed_places s) p → IsHeaderAt (resolved cs) m p
     by (Irreducible nodes) h c = absurd (nil_contains p c)
     by (Reducible places) h c = record { bounded = bounded; places = places.items; single = h.0; are = h.1; among = c }
+
+-- ---- its lines and its name, by the shape of its loops
+
+module _ (cs : List ClassFile) (n : ℕ) (bounded : MayBeBounded (resolved cs) n) (apart : (nodes : List ℕ) → IsLeftWith (resolved cs) n nodes → nodes ≢ [] → ¬ IsLeftWith (resolved cs) n []) where
+  names_by_shape : (shape : Shape) → IsShape (resolved cs) n shape → (name : List ℕ) → name ≡ written_name cs n → (y : List ℕ) → IsNameBy shape name y ↔ IsNameOf cs n y
+  names_by_shape (Irreducible nodes) is name named y = (λ bad. absurd bad, λ of. apart nodes.items is.0 is.1 of.0.1)
+  names_by_shape (Reducible places) is name named y = (λ e. ((bounded, is.0), sym named ∙ sym e), λ of. sym of.1 ∙ sym named)
+
+  module _ (source : Option MethodSource) (within : (p : ℕ) (s : List ℕ × ℕ) → source_by source p ≡ Some s → IsCodePlace (resolved cs) n p) where
+    lines_by_shape : (shape : Shape) → IsShape (resolved cs) n shape → ((p : ℕ) → IsToldPlace (resolved cs) n shape p → source_by source p ≡ source_at cs n p)
+        → ((p : ℕ) → IsHeaderAt (resolved cs) n p → Contains (headed_places shape) p) → (s : List ℕ × ℕ) → IsLineBy source shape s ↔ IsLineOf cs n s
+    lines_by_shape (Irreducible nodes) is told all s = (to, from)
+      where
+        to : IsLineBy source (Irreducible nodes) s → IsLineOf cs n s
+        to k =
+            let code = within k.0 s k.1 in
+            (k.0, inr (record { bounded = bounded; within = code; nodes = nodes.items; left = is.0; some = is.1 }), sym (told k.0 code) ∙ k.1)
+
+        from : IsLineOf cs n s → IsLineBy source (Irreducible nodes) s
+        from of = elim of.1 [ inl at ↦ absurd (apart nodes.items is.0 is.1 at.single) | inr at ↦ (of.0, told of.0 at.within ∙ of.2) ]
+    lines_by_shape (Reducible places) is told all s = (to, from)
+      where
+        to : IsLineBy source (Reducible places) s → IsLineOf cs n s
+        to k = (k.0, inl (record { bounded = bounded; places = places.items; single = is.0; are = is.1; among = k.1 }), sym (told k.0 k.1) ∙ k.2)
+
+        from : IsLineOf cs n s → IsLineBy source (Reducible places) s
+        from of = elim of.1 [ inl at ↦ (let c = all of.0 at in (of.0, c, told of.0 c ∙ of.2)) | inr at ↦ absurd (apart at.nodes at.left at.some is.0) ]
+
+line_bounded : (cs : List ClassFile) (n : ℕ) (s : List ℕ × ℕ) → IsLineOf cs n s → MayBeBounded (resolved cs) n
+line_bounded cs n s of = elim of.1 [ inl at ↦ at.bounded | inr at ↦ at.bounded ]
 
 -- ---- one method more
 
@@ -164,41 +191,32 @@ module _ (cs : List ClassFile) (notes : List Note) (found : List FoundLoop) wher
           | inr new ↦ inl (new.0 ∙ h.count ∙ boot, sym new.1)
         ];
     text_is = h.text_is ∙ sym (concat_more h.texts [] ∙ append-nil (concat h.texts));
-    names = still_below (IsNameOf cs) n g.methods.names h.names (λ x of. of.0.1 boot);
+    names = still_below (IsNameOf cs) n g.methods.names h.names (λ x of. of.0.0.1 boot);
     places = still_below (IsPlaceOf cs) n g.methods.sites h.places (λ x of. of.0.bounded.1 boot);
     files = h.files;
-    lines = still_below (IsLineOf cs) n g.files.sites h.lines (λ x of. of.1.bounded.1 boot);
+    lines = still_below (IsLineOf cs) n g.files.sites h.lines (λ x of. (line_bounded cs n x of).1 boot);
   }
 
   module _ (n : ℕ) (old new : Gathered) (left : List FoundLoop) (name : List ℕ) (x : MethodLoops) (h : AreGathered cs notes found n old) (adds : AddsMethod old new notes left n name x)
-      (told : IsToldOf cs n x) (named : name ≡ method_name cs n) (bounded : MayBeBounded (resolved cs) n) (same : (p : ℕ) → found_at left n p ≡ found_at found n p) where
+      (told : IsToldOf cs n x) (named : name ≡ written_name cs n) (bounded : MayBeBounded (resolved cs) n) (same : (p : ℕ) → found_at left n p ≡ found_at found n p) where
     t : List ℕ
-    t = method_lines cs notes found n (method_name cs n) x.shape
+    t = method_lines cs notes found n (written_name cs n) x.shape
 
-    text_same : lines_by notes left n name x ≡ t
+    text_same : lines_by notes left n name x.source x.shape ≡ t
     unfolding t
-    text_same = lines_same cs notes left found n name x told same ∙ ap (λ (y : List ℕ). method_lines cs notes found n y x.shape) named
+    text_same = lines_same cs notes left found n name x.source x.shape told.source same ∙ ap (λ (y : List ℕ). method_lines cs notes found n y x.shape) named
 
-    each_more : (m : ℕ) (text : List ℕ) → slice_get (h.texts ++ t ∷ []) m ≡ Some text → IsMethodText (resolved cs) cs notes found (method_name cs) m text
+    each_more : (m : ℕ) (text : List ℕ) → slice_get (h.texts ++ t ∷ []) m ≡ Some text → IsMethodText (resolved cs) cs notes found (written_name cs) m text
     unfolding t
     each_more m text got =
-        let M : ℕ → Type 0 = λ k. IsMethodText (resolved cs) cs notes found (method_name cs) k text in
+        let M : ℕ → Type 0 = λ k. IsMethodText (resolved cs) cs notes found (written_name cs) k text in
         elim (got_cases h.texts t text m got) [
           | inl before ↦ h.each m text before
           | inr here ↦ let at : n ≡ m = sym (here.0 ∙ h.count) in subst M at (inr (bounded.1, (x.shape, told.shape, sym here.1)))
         ]
 
-    names_same : (y : List ℕ) → (y ≡ name) ↔ IsNameOf cs n y
-    names_same y = (λ e. (bounded, sym named ∙ sym e), λ of. sym of.1 ∙ sym named)
-
     places_same : (s : List ℕ × ℕ) → ((s.0 ≡ name) × Contains (headed_places x.shape) s.1) ↔ IsPlaceOf cs n s
     places_same s = (λ k. (places_are cs n x told bounded s.1 k.1, sym named ∙ sym k.0), λ of. (sym of.1 ∙ sym named, told.all s.1 of.0))
-
-    lines_are : (s : List ℕ × ℕ) → IsLineBy x.source (headed_places x.shape) s ↔ IsLineOf cs n s
-    lines_are s = (
-      λ k. (k.0, places_are cs n x told bounded k.0 k.1, sym (told.source k.0 k.1) ∙ k.2),
-      λ of. let c = told.all of.0 of.1 in (of.0, c, told.source of.0 c ∙ of.2),
-    )
 
     files_still : AreFiles cs new.files.names
     files_still file = (
@@ -216,10 +234,11 @@ module _ (cs : List ClassFile) (notes : List Note) (found : List FoundLoop) wher
       count = let long = length-append h.texts (t ∷ []) in omega (arith, long, h.count);
       each = each_more;
       text_is = adds.text ∙ ap₂ (λ (a b : List ℕ). a ++ b) h.text_is text_same ∙ sym (concat_more h.texts t);
-      names = more_below (IsNameOf cs) n old.methods.names new.methods.names (λ y. y ≡ name) h.names adds.names names_same;
-      places = more_below (IsPlaceOf cs) n old.methods.sites new.methods.sites (λ s. (s.0 ≡ name) × Contains (headed_places x.shape) s.1) h.places adds.places places_same;
+      names = more_below (IsNameOf cs) n old.methods.names new.methods.names (IsNameBy x.shape name) h.names adds.places.names (names_by_shape cs n bounded told.apart x.shape told.shape name named);
+      places = more_below (IsPlaceOf cs) n old.methods.sites new.methods.sites (λ s. (s.0 ≡ name) × Contains (headed_places x.shape) s.1) h.places adds.places.places places_same;
       files = files_still;
-      lines = more_below (IsLineOf cs) n old.files.sites new.files.sites (IsLineBy x.source (headed_places x.shape)) h.lines adds.lines.lines lines_are;
+      lines = more_below (IsLineOf cs) n old.files.sites new.files.sites (IsLineBy x.source x.shape) h.lines adds.lines.lines
+          (lines_by_shape cs n bounded told.apart x.source told.within x.shape told.shape told.source told.all);
     }
 
   -- ---- all methods
@@ -230,10 +249,10 @@ module _ (cs : List ClassFile) (notes : List Note) (found : List FoundLoop) wher
 
     pub all_known : AreKnown cs g
     all_known = record {
-      names = all_below (IsNameOf cs) (length f.methods) g.methods.names h.names (λ m x of. coded_below m of.0.0);
+      names = all_below (IsNameOf cs) (length f.methods) g.methods.names h.names (λ m x of. coded_below m of.0.0.0);
       places = all_below (IsPlaceOf cs) (length f.methods) g.methods.sites h.places (λ m x of. coded_below m of.0.bounded.0);
       files = h.files;
-      lines = all_below (IsLineOf cs) (length f.methods) g.files.sites h.lines (λ m x of. coded_below m of.1.bounded.0);
+      lines = all_below (IsLineOf cs) (length f.methods) g.files.sites h.lines (λ m x of. coded_below m (line_bounded cs m x of).0);
     }
 
     pub texts_are : AreMethodTexts cs notes found h.texts
@@ -244,23 +263,18 @@ module _ (cs : List ClassFile) (notes : List Note) (found : List FoundLoop) wher
 
 -- ---- a method by its parts
 
-pub method_added : {E : Type 0} (r : Result (Unit {0}) E) (old new : Gathered) (notes : List Note) (found : List FoundLoop) (m : ℕ) (name : List ℕ) (x : MethodLoops) (places : List ℕ) → places ≡ headed_places x.shape
-    → new.text.items ≡ old.text.items ++ lines_by notes found m name x → IsWith old.methods.names new.methods.names (λ y. y ≡ name)
-    → IsWith old.methods.sites new.methods.sites (λ s. (s.0 ≡ name) × Contains places s.1) → OnOk r (AddsLines old.files new.files x.source places) → OnOk r (AddsMethod old new notes found m name x)
-method_added (Ok _) old new notes found m name x places are text names sites lines = record {
-  text = text;
-  names = names;
-  places = subst (λ (ps : List ℕ). IsWith old.methods.sites new.methods.sites (λ s. (s.0 ≡ name) × Contains ps s.1)) are sites;
-  lines = subst (λ (ps : List ℕ). AddsLines old.files new.files x.source ps) are lines;
-}
-method_added (Err _) old new notes found m name x places are text names sites lines = tt
+pub method_added : {E : Type 0} (r : Result (Unit {0}) E) (old new : Gathered) (notes : List Note) (found : List FoundLoop) (m : ℕ) (name : List ℕ) (x : MethodLoops)
+    → new.text.items ≡ old.text.items ++ lines_by notes found m name x.source x.shape → AddsPlaces old.methods new.methods name x.shape → OnOk r (AddsLines old.files new.files x.source x.shape)
+    → OnOk r (AddsMethod old new notes found m name x)
+method_added (Ok _) old new notes found m name x text places lines = record { text = text; places = places; lines = lines }
+method_added (Err _) old new notes found m name x text places lines = tt
 
 -- ---- what strays
 
-pub stray_is : (cs : List ClassFile) (g : Gathered) → AreKnown cs g → (s : Subject) → IsLacking g s → IsStray cs (method_name cs) s
-stray_is cs g known (AtLine file line) l = ((known.files file).0 l.0, λ m p at is. l.1 ((known.lines (file, line)).1 (m, (p, at, is))))
+pub stray_is : (cs : List ClassFile) (g : Gathered) → AreKnown cs g → (s : Subject) → IsLacking g s → IsStray cs (written_name cs) s
+stray_is cs g known (AtLine file line) l = ((known.files file).0 l.0, λ m p at is. l.1 ((known.lines (file, line)).1 (m, (p, inl at, is))), λ m p at is. l.1 ((known.lines (file, line)).1 (m, (p, inr at, is))))
 stray_is cs g known (AtPlace method pc) l = (let r = (known.names method).0 l.0 in (r.0, r.1.0, r.1.1), λ m at is. l.1 ((known.places (method, pc)).1 (m, (at, is))))
 
-pub is_stray : (cs : List ClassFile) (g : Gathered) → AreKnown cs g → (s : Subject) → IsStray cs (method_name cs) s → IsLacking g s
-is_stray cs g known (AtLine file line) h = ((known.files file).1 h.0, λ c. let r = (known.lines (file, line)).0 c in h.1 r.0 r.1.0 r.1.1 r.1.2)
+pub is_stray : (cs : List ClassFile) (g : Gathered) → AreKnown cs g → (s : Subject) → IsStray cs (written_name cs) s → IsLacking g s
+is_stray cs g known (AtLine file line) h = ((known.files file).1 h.0, λ c. let r = (known.lines (file, line)).0 c in elim r.1.1 [ inl at ↦ h.1 r.0 r.1.0 at r.1.2 | inr at ↦ h.2 r.0 r.1.0 at r.1.2 ])
 is_stray cs g known (AtPlace method pc) h = ((known.names method).1 (h.0.0, (h.0.1, h.0.2)), λ c. let r = (known.places (method, pc)).0 c in h.1 r.0 r.1.0 r.1.1)

@@ -1,11 +1,12 @@
 -- The laws of the text of headers.
-use Rattle.std.proofs.Common.{◌≡◌, ◌⊎◌, ℕ, ◌*◌, ◌≤◌, Bool, true, false, List, [], refl, sym, ◌∙◌, ap, arith, Option, Some, None, inl, inr}
-use Rattle.std.specs.Prelude.{min, IsSome, if◌then◌else◌}
+use Rattle.std.proofs.Common.{◌≡◌, ◌⊎◌, ℕ, ◌*◌, ◌≤◌, true, false, List, [], refl, sym, ap, arith, Option, Some, None, inl, inr}
+use Rattle.std.specs.Prelude.{min, IsSome}
 use Rattle.std.proofs.lemmas.Bool.{cases_lt}
 use Rattle.std.proofs.lemmas.Option.{slice_get-get_or}
 use Rattle.lists.proofs.Lemmas.{none≢some, some_same}
 use Rattle.class_pool.specs.declared.class.ClassFile.{ClassFile}
-use Rattle.program_tables.specs.Resolved.{resolved, method_name}
+use Rattle.program_tables.specs.Resolved.{resolved}
+use Rattle.method_names.specs.Written.{written_name}
 use Rattle.loop_nest.specs.Digraph.{Digraph}
 use Rattle.loop_nest.specs.Walks.{IsHeader, KeepsBound}
 use Rattle.method_flow.specs.Graphs.{IsGraphOf}
@@ -19,8 +20,7 @@ use Rattle.bound_rules.specs.Laws.{GraphsAreOne}
 use Rattle.bound_causes.specs.Shapes.{IsShape}
 use Rattle.bound_causes.specs.declared.shapes.Shape.{Shape}
 use Rattle.bound_causes.specs.declared.shapes.Shape.TheVariants.{Irreducible, Reducible}
-use Rattle.answer_lines.specs.LoopLine.{is_nameable}
-use Rattle.source_headers.specs.Headers.{lesser, found_at, header_at, said, said_of_line, written}
+use Rattle.source_headers.specs.Headers.{lesser, found_at, header_at, said, said_of_line}
 use Rattle.method_sources.specs.Sources.{source_at}
 use Rattle.source_headers.specs.Straying.{MayBeBounded}
 use Rattle.source_headers.specs.Files.{AreMethodTexts}
@@ -58,15 +58,10 @@ lesser_right (Some x) (Some y) k h = (min x y, refl, let e = some_same y h.0 h.1
 keeps_more : (g : Digraph) (h n k : ℕ) (ns : List ℕ) → n ≤ k → KeepsBound g h n ns → KeepsBound g h k ns
 keeps_more g h n k ns le keeps before inner after parts all = let below = keeps before inner after parts all in omega (arith, below, le)
 
-pub chosen : (b : Bool) (o : Option ℕ) (n : ℕ) → (if b then o else None) ≡ Some n → o ≡ Some n
-chosen true o n h = h
-chosen false o n h = absurd (none≢some n h)
-
 pub kept : KeptNotesAreKept
 kept cs notes found m ns all g live p bound is =
-    let name = method_name cs m in
-    let header = header_at cs found m p in
-    elim (lesser_is (found_at found m p) (said notes name header) bound (chosen (is_nameable name) (written notes name header) bound is)) [
+    let name = written_name cs m in
+    elim (lesser_is (found_at found m p) (said notes name (header_at cs found m p)) bound is) [
       | inl of ↦ all.found_kept g live p bound of
       | inr say ↦
           elim (lesser_is (said_of_line notes (source_at cs m p)) (bound_in (AtPlace name p) notes) bound say) [
@@ -76,24 +71,23 @@ kept cs notes found m ns all g live p bound is =
     ]
 
 pub exact : WrittenKeepsNotes
-exact cs notes found m ns named keeps =
-    let name = method_name cs m in
+exact cs notes found m ns keeps =
+    let name = written_name cs m in
     let W : BoundOf = written_of cs notes found in
-    let is : (p : ℕ) → W m p ≡ written notes name (header_at cs found m p) = λ p. ap (λ (b : Bool). if b then written notes name (header_at cs found m p) else None) named in
     let less : (g : Digraph) → (p bound n : ℕ) → ((q k : ℕ) → W m q ≡ Some k → KeepsBound g (2 * q) k ns) → W m p ≡ Some n → n ≤ bound → KeepsBound g (2 * p) bound ns =
     λ g p bound n all at le. keeps_more g (2 * p) n bound ns le (all p n at) in
     record {
       found_kept = λ g live p bound h.
           let w = lesser_left (found_at found m p) (said notes name (header_at cs found m p)) bound h in
-          less g p bound w.0 (keeps g live) (is p ∙ w.1) w.2;
+          less g p bound w.0 (keeps g live) w.1 w.2;
       lines_kept = λ g live p bound h.
           let say = lesser_left (said_of_line notes (source_at cs m p)) (bound_in (AtPlace name p) notes) bound h in
           let w = lesser_right (found_at found m p) (said notes name (header_at cs found m p)) bound say in
-          less g p bound w.0 (keeps g live) (is p ∙ w.1) w.2;
+          less g p bound w.0 (keeps g live) w.1 w.2;
       places_kept = λ g live p bound h.
           let say = lesser_right (said_of_line notes (source_at cs m p)) (bound_in (AtPlace name p) notes) bound (bound, h, omega arith) in
           let w = lesser_right (found_at found m p) (said notes name (header_at cs found m p)) bound say in
-          less g p bound w.0 (keeps g live) (is p ∙ w.1) w.2;
+          less g p bound w.0 (keeps g live) w.1 w.2;
     }
 
 -- ---- loops with numbers

@@ -1,4 +1,4 @@
--- What is written for the loops of resolved classes can be read: places and numbers have 32 bits, and files can be named.
+-- What is written for the loops of resolved classes can be read: places and numbers have 32 bits, and no file's name holds a line feed.
 use Rattle.std.proofs.Common.{◌≡◌, ◌⊎◌, ℕ, ◌^◌, ◌<◌, Bool, true, false, ◌&&◌, List, [], ◌∷◌, ◌++◌, Contains, refl, sym, ◌∙◌, ap, subst, arith, lit<, Option, Some, None, inl, inr}
 use Rattle.std.specs.Prelude.{◌==◌, slice_get, if◌then◌else◌}
 use Rattle.std.specs.Option.{option_map, option_map_or}
@@ -22,15 +22,16 @@ use Rattle.line_tables.specs.Source.{source_file_of}
 use Rattle.loop_rules.specs.declared.found.FoundLoop.{FoundLoop}
 use Rattle.source_bounds.specs.Notes.{Subject, AtLine, AtPlace, Note, bound_in, same_subject}
 use Rattle.source_bounds.specs.Grammar.{SaysNotes, IsNote, GiveNotes, AreNotesRead}
-use Rattle.source_bounds.specs.Unbroken.{is_unbroken}
+use Rattle.method_names.specs.Written.{written}
+use Rattle.method_names.specs.Laws.{WrittenAreWords}
 use Rattle.bound_causes.specs.Shapes.{IsShape}
 use Rattle.bound_causes.specs.declared.shapes.Shape.{Shape}
-use Rattle.method_sources.specs.Sources.{class_of, file_of, line_in, source_in, source_at, unbroken}
-use Rattle.source_headers.specs.Headers.{found_at, header_at, said, said_of_line, written}
+use Rattle.method_sources.specs.Sources.{class_of, file_of, line_in, source_in, source_at}
+use Rattle.source_headers.specs.Headers.{found_at, header_at, said, said_of_line, number_written}
 use Rattle.source_headers.specs.Told.{headed_places}
-use Rattle.source_headers.proofs.ToldLemmas.{places_coded, places_within}
+use Rattle.source_headers.proofs.ToldLemmas.{header_in}
 use Rattle.source_headers.proofs.LawLemmas.{lesser_is}
-use Rattle.source_headers.proofs.ReadLemmas.{IsReadable}
+use Rattle.source_headers.proofs.ReadLemmas.{IsOnePart, IsReadable, lacks_none, word_is}
 
 -- ---- places
 
@@ -41,27 +42,27 @@ code_case (Some p) f k h = (p, h)
 -- a place where a loop is headed has 16 bits
 place_small : MethodsHaveCode → MethodsStandByNumber → (cs : List ClassFile) → IsResolved cs → (m : ℕ) (shape : Shape) → IsShape (resolved cs) m shape → (p : ℕ) → Contains (headed_places shape) p → p < 2 ^ 32
 place_small have by_number cs r m shape is p c =
-    let k = places_coded by_number cs m shape is p c in
-    let within = places_within by_number cs m shape is p c k.0 k.1 in
-    let at = code_case (slice_get (methods_by_number cs) m) (λ q. onto (method_at cs q) code_of) k.0 k.1 in
-    let small = code_small have cs r.grammar at.0 k.0 at.1 in
+    let k = header_in by_number cs m shape is p c in
+    let at = code_case (slice_get (methods_by_number cs) m) (λ q. onto (method_at cs q) code_of) k.code k.code_is in
+    let small = code_small have cs r.grammar at.0 k.code at.1 in
     let wide : 65536 < 2 ^ 32 = lit< tt in
-    omega (arith, within, small, wide)
+    omega (arith, k.within, small, wide)
 
 -- ---- files
 
-unbroken_case : (b : Bool) (file x : List ℕ) → (if b then Some file else None) ≡ Some x → (b ≡ true) × (file ≡ x)
-unbroken_case true file x h = (refl, some_same file x h)
-unbroken_case false file x h = absurd (none≢some x h)
+name_feedless : WrittenAreWords → (name : List ℕ) → ¬ Contains (written name) 10
+name_feedless words [] = λ c. nil_contains 10 c
+name_feedless words (b ∷ bs) =
+    let part : IsOnePart (written (b ∷ bs)) = word_is (written (b ∷ bs)) (words (b ∷ bs) (λ e. let bad : ⊥ = cc in bad)) in
+    lacks_none 10 (written (b ∷ bs)) part.feed
 
-file_unbroken : (cs : List ClassFile) (m p : ℕ) (s : List ℕ × ℕ) → source_at cs m p ≡ Some s → is_unbroken s.0 ≡ true
-file_unbroken cs m p s h =
+file_feedless : WrittenAreWords → (cs : List ClassFile) (m p : ℕ) (s : List ℕ × ℕ) → source_at cs m p ≡ Some s → ¬ Contains s.0 10
+file_feedless words cs m p s h =
     let c = onto_some (class_of cs m) (source_in cs m p) s h in
     let file = onto_some (file_of c.0) (λ file. option_map (λ line. (file, line)) (line_in cs c.0 m p)) s c.2 in
     let line = map_some (λ (line : ℕ). (file.0, line)) (line_in cs c.0 m p) s file.2 in
-    let name = onto_some (source_file_of c.0) unbroken file.0 file.1 in
-    let whole = unbroken_case (is_unbroken name.0) name.0 file.0 name.2 in
-    subst (λ (x : List ℕ). is_unbroken x ≡ true) (whole.1 ∙ ap (λ (t : List ℕ × ℕ). t.0) line.2) whole.0
+    let name = map_some written (source_file_of c.0) file.0 file.1 in
+    subst (λ (x : List ℕ). ¬ Contains x 10) (name.2 ∙ ap (λ (t : List ℕ × ℕ). t.0) line.2) (name_feedless words name.0)
 
 -- ---- numbers that are said
 
@@ -140,7 +141,7 @@ unfolding AreFoundSmall
 found_small found small m p n h = let f = found_there found m p n h in subst (λ (x : ℕ). x < 2 ^ 32) f.number (small f.loop f.among)
 
 pub number_small : (cs : List ClassFile) (lines : List ℕ) (notes : List Note) (found : List FoundLoop) → AreNotesRead lines notes → AreFoundSmall found → (m p : ℕ) (name : List ℕ) (n : ℕ)
-    → written notes name (header_at cs found m p) ≡ Some n → n < 2 ^ 32
+    → number_written notes name (header_at cs found m p) ≡ Some n → n < 2 ^ 32
 number_small cs lines notes found read small m p name n h =
     let notes_small = lines_small (lines_of lines) notes read.given in
     let header = header_at cs found m p in
@@ -154,10 +155,10 @@ number_small cs lines notes found read small m p name n h =
     ]
 
 -- the headers of a method can be read
-pub readable : MethodsHaveCode → MethodsStandByNumber → (cs : List ClassFile) → IsResolved cs → (lines : List ℕ) (notes : List Note) (found : List FoundLoop) → AreNotesRead lines notes → AreFoundSmall found
+pub readable : WrittenAreWords → MethodsHaveCode → MethodsStandByNumber → (cs : List ClassFile) → IsResolved cs → (lines : List ℕ) (notes : List Note) (found : List FoundLoop) → AreNotesRead lines notes → AreFoundSmall found
     → (m : ℕ) (shape : Shape) → IsShape (resolved cs) m shape → (name : List ℕ) (p : ℕ) → Contains (headed_places shape) p → IsReadable notes name (header_at cs found m p)
-readable have by_number cs r lines notes found read small m shape is name p c = record {
+readable words have by_number cs r lines notes found read small m shape is name p c = record {
   place = place_small have by_number cs r m shape is p c;
-  file = file_unbroken cs m p;
+  file = file_feedless words cs m p;
   number = number_small cs lines notes found read small m p name;
 }

@@ -1,22 +1,22 @@
 -- The lines of headers are read as the numbers that are written.
-use Rattle.std.proofs.Common.{◌≡◌, ℕ, zero, suc, ◌+◌, ◌/◌, ◌%◌, ◌^◌, ◌<◌, Bool, true, false, not, ◌&&◌, List, [], ◌∷◌, ◌++◌, length, refl, sym, ap, ◌∙◌, subst, arith, rules, lit<, inl, inr, Option, Some, None}
-use Rattle.std.specs.Prelude.{◌==◌, codes, decimal, flat_map, option_map, if◌then◌else◌}
+use Rattle.std.proofs.Common.{◌≡◌, ℕ, zero, suc, ◌+◌, ◌/◌, ◌%◌, ◌^◌, ◌<◌, ◌≤◌, Bool, true, false, not, ◌&&◌, List, [], ◌∷◌, ◌++◌, length, Contains, refl, sym, ap, ◌∙◌, subst, arith, rules, lit<, inl, inr, Option, Some, None}
+use Rattle.std.specs.Prelude.{◌==◌, nat_lt, codes, decimal, flat_map, option_map, if◌then◌else◌}
 use Rattle.std.specs.Fmt.{digits, digits_onto, digit_glyph}
 use Rattle.std.specs.List.{All, AllByRecursion, slice_split, list_all, filter_map, cons_option}
-use Rattle.std.proofs.lemmas.Bool.{cases_Bool, eqb-true, lt-ltb, true≢false}
+use Rattle.std.proofs.lemmas.Bool.{cases_Bool, eqb-true, eq-eqb, ltb-true, lt-ltb, true≢false}
 use Rattle.std.proofs.lemmas.List.{append_assoc}
-use Rattle.std.proofs.lemmas.List.Elements.{All-from_recursion}
+use Rattle.std.proofs.lemmas.List.Elements.{All-contains, All-from_recursion}
 use Rattle.std.proofs.lemmas.List.Splits.{slice_split_none, slice_split_at, length-slice_split}
+use Rattle.lists.specs.Members.{at_head, in_tail}
 use Rattle.lists.specs.Tests.{and_left, and_right, not_true}
 use Rattle.ascii_text.specs.Line.{lines_of, without_empty_last}
 use Rattle.ascii_text.proofs.NumberLemmas.{HasOneSpelling-decimal}
 use Rattle.loop_bounds.specs.Bounds.{LoopBound}
 use Rattle.loop_bounds.specs.Grammar.{SaysLoopBound, Give}
 use Rattle.loop_bounds.specs.Lines.{IsNumber, IsSilent}
-use Rattle.answer_lines.specs.LoopLine.{is_nameable}
+use Rattle.method_names.specs.Written.{is_word}
 use Rattle.source_bounds.specs.Notes.{Note}
-use Rattle.source_bounds.specs.Unbroken.{is_unbroken}
-use Rattle.source_headers.specs.Headers.{Header, written, source_line, number_line, header_lines, spaced, irreducible_line, unnamed_line}
+use Rattle.source_headers.specs.Headers.{Header, number_written, source_line, number_line, header_lines, spaced, irreducible_line}
 use Rattle.source_headers.specs.Reading.{bound_written, HeadersAreRead}
 
 -- ---- no space and no line feed
@@ -34,18 +34,47 @@ lacks_both mark (c ∷ text) more h r = (h.0, lacks_both mark text more h.1 r)
 all_of : (mark : ℕ) (text : List ℕ) → Lacks mark text → All (λ c. is_mark mark c ≡ false) text
 all_of mark text h = All-from_recursion (λ c. is_mark mark c ≡ false) text h
 
-abbrev keeps_both : ℕ → Bool
-keeps_both c = not (c == 32) && not (c == 10)
+-- a byte of a word
+abbrev is_visible : ℕ → Bool
+is_visible c = nat_lt 32 c && not (c == 127)
 
-lacks_space : (text : List ℕ) → list_all keeps_both text ≡ true → Lacks 32 text
-lacks_space [] h = tt
-lacks_space (c ∷ text) h =
-    (not_true (c == 32) (and_left (not (c == 32)) (not (c == 10)) (and_left (keeps_both c) (list_all keeps_both text) h)), lacks_space text (and_right (keeps_both c) (list_all keeps_both text) h))
+plain_lacks : (mark : ℕ) → mark ≤ 32 → (text : List ℕ) → list_all is_visible text ≡ true → Lacks mark text
+plain_lacks mark low [] h = tt
+plain_lacks mark low (c ∷ text) h =
+    let above : 32 < c = ltb-true 32 c (and_left (nat_lt 32 c) (not (c == 127)) (and_left (is_visible c) (list_all is_visible text) h)) in
+    let other : is_mark mark c ≡ false =
+    elim (cases_Bool (is_mark mark c)) [ inl e ↦ absurd (let same : c ≡ mark = eqb-true c mark e in omega (arith, above, low)) | inr e ↦ e ] in
+    (other, plain_lacks mark low text (and_right (is_visible c) (list_all is_visible text) h))
 
-pub lacks_feed : (text : List ℕ) → list_all keeps_both text ≡ true → Lacks 10 text
-lacks_feed [] h = tt
-lacks_feed (c ∷ text) h =
-    (not_true (c == 10) (and_right (not (c == 32)) (not (c == 10)) (and_left (keeps_both c) (list_all keeps_both text) h)), lacks_feed text (and_right (keeps_both c) (list_all keeps_both text) h))
+-- what holds none of the marks
+without_lacks : (mark : ℕ) (text : List ℕ) → ¬ Contains text mark → Lacks mark text
+without_lacks mark [] lacks = tt
+without_lacks mark (c ∷ text) lacks =
+    let other : is_mark mark c ≡ false =
+    elim (cases_Bool (is_mark mark c)) [ inl e ↦ absurd (lacks (subst (λ (x : ℕ). Contains (c ∷ text) x) (eqb-true c mark e) (at_head c text))) | inr e ↦ e ] in
+    (other, without_lacks mark text (λ there. lacks (in_tail c mark text there)))
+
+pub lacks_none : (mark : ℕ) (text : List ℕ) → Lacks mark text → ¬ Contains text mark
+lacks_none mark text h c = true≢false (sym (eq-eqb mark mark refl) ∙ All-contains (λ c. is_mark mark c ≡ false) text mark (all_of mark text h) c)
+
+-- a word is one part of a line, and no remark
+pub record IsOnePart (name : List ℕ) : Type 0 where
+  pub space : Lacks 32 name
+  pub feed : Lacks 10 name
+  pub long : 0 < length name
+  pub said : IsSilent name → ⊥
+
+pub word_is : (name : List ℕ) → is_word name ≡ true → IsOnePart name
+word_is [] h = absurd (true≢false (sym h))
+word_is (c ∷ name) h =
+    let first = not_true (c == 35) (and_left (not (c == 35)) (list_all is_visible (c ∷ name)) h) in
+    let plain = and_right (not (c == 35)) (list_all is_visible (c ∷ name)) h in
+    record {
+      space = plain_lacks 32 (omega arith) (c ∷ name) plain;
+      feed = plain_lacks 10 (omega arith) (c ∷ name) plain;
+      long = omega arith;
+      said = λ silent. true≢false (sym (ap (λ (x : ℕ). x == 35) silent) ∙ first);
+    }
 
 glyph_lacks : (mark d : ℕ) → mark < 40 → d < 10 → is_mark mark (digit_glyph false d) ≡ false
 glyph_lacks mark d low small =
@@ -112,71 +141,62 @@ regroup_source a b c d rest = simp append_assoc
 regroup_wanting : (a b c d e rest : List ℕ) → (a ++ (b ++ (c ++ (d ++ (e ++ 10 ∷ []))))) ++ rest ≡ (a ++ (b ++ (c ++ (d ++ e)))) ++ 10 ∷ rest
 regroup_wanting a b c d e rest = simp append_assoc
 
-source_first : (s : Option (List ℕ × ℕ)) (rest : List ℕ) → ((t : List ℕ × ℕ) → s ≡ Some t → is_unbroken t.0 ≡ true) → lines_of (source_line s ++ rest) ≡ source_words s ++ lines_of rest
+source_first : (s : Option (List ℕ × ℕ)) (rest : List ℕ) → ((t : List ℕ × ℕ) → s ≡ Some t → ¬ Contains t.0 10) → lines_of (source_line s ++ rest) ≡ source_words s ++ lines_of rest
 unfolding source_words remark_words
 source_first None rest h = refl
 source_first (Some s) rest h =
     let k = h s refl in
     let words = codes "# " ++ (s.0 ++ (codes ":" ++ decimal s.1)) in
-    let lacks : Lacks 10 words = (refl, (refl, lacks_both 10 s.0 (codes ":" ++ decimal s.1) (lacks_feed s.0 k) (refl, number_lacks 10 (lit< tt) s.1))) in
+    let lacks : Lacks 10 words = (refl, (refl, lacks_both 10 s.0 (codes ":" ++ decimal s.1) (without_lacks 10 s.0 k) (refl, number_lacks 10 (lit< tt) s.1))) in
     ap lines_of (regroup_source (codes "# ") s.0 (codes ":") (decimal s.1) rest) ∙ line_first words rest lacks
 
-number_first : (name : List ℕ) (place : ℕ) (o : Option ℕ) (rest : List ℕ) → is_unbroken name ≡ true
+number_first : (name : List ℕ) (place : ℕ) (o : Option ℕ) (rest : List ℕ) → Lacks 10 name
     → lines_of (number_line name place o ++ rest) ≡ number_words name place o ∷ lines_of rest
 unfolding number_words wanting_words bound_words
-number_first name place None rest named =
+number_first name place None rest feed =
     let words = codes "# " ++ (name ++ (codes " " ++ (decimal place ++ codes " loop<="))) in
     let end : Lacks 10 (codes " loop<=") = (refl, (refl, (refl, (refl, (refl, (refl, (refl, tt))))))) in
     let lacks : Lacks 10 words =
-    (refl, (refl, lacks_both 10 name (codes " " ++ (decimal place ++ codes " loop<=")) (lacks_feed name named) (refl, lacks_both 10 (decimal place) (codes " loop<=") (number_lacks 10 (lit< tt) place) end))) in
+    (refl, (refl, lacks_both 10 name (codes " " ++ (decimal place ++ codes " loop<=")) feed (refl, lacks_both 10 (decimal place) (codes " loop<=") (number_lacks 10 (lit< tt) place) end))) in
     ap lines_of (regroup_wanting (codes "# ") name (codes " ") (decimal place) (codes " loop<=") rest) ∙ line_first words rest lacks
-number_first name place (Some n) rest named =
+number_first name place (Some n) rest feed =
     let words = name ++ (codes " " ++ (decimal place ++ (codes " loop<=" ++ decimal n))) in
     let end : Lacks 10 (codes " loop<=" ++ decimal n) = (refl, (refl, (refl, (refl, (refl, (refl, (refl, number_lacks 10 (lit< tt) n))))))) in
     let lacks : Lacks 10 words =
-    lacks_both 10 name (codes " " ++ (decimal place ++ (codes " loop<=" ++ decimal n))) (lacks_feed name named)
+    lacks_both 10 name (codes " " ++ (decimal place ++ (codes " loop<=" ++ decimal n))) feed
     (refl, lacks_both 10 (decimal place) (codes " loop<=" ++ decimal n) (number_lacks 10 (lit< tt) place) end) in
     ap lines_of (regroup_wanting name (codes " ") (decimal place) (codes " loop<=") (decimal n) rest) ∙ line_first words rest lacks
 
 -- ---- what they say
 
-named_parts : (name : List ℕ) → is_nameable name ≡ true → (is_unbroken name ≡ true) × (0 < length name) × (IsSilent name → ⊥)
-named_parts [] h = absurd (true≢false (sym h))
-named_parts (c ∷ name) h = (
-  and_right (not (c == 35)) (is_unbroken (c ∷ name)) h,
-  omega arith,
-  λ silent. true≢false (sym (ap (λ (x : ℕ). x == 35) silent) ∙ not_true (c == 35) (and_left (not (c == 35)) (is_unbroken (c ∷ name)) h)),
-)
-
 silent_front : (name rest : List ℕ) → 0 < length name → IsSilent (name ++ rest) → IsSilent name
 silent_front [] rest h s = absurd (omega (arith, h))
 silent_front (c ∷ name) rest h s = s
 
-bound_says : (name : List ℕ) (place n : ℕ) → is_nameable name ≡ true → place < 2 ^ 32 → n < 2 ^ 32 → SaysLoopBound (bound_words name place n) (record { name = name; pc = place; bound = n } ∷ [])
+bound_says : (name : List ℕ) (place n : ℕ) → IsOnePart name → place < 2 ^ 32 → n < 2 ^ 32 → SaysLoopBound (bound_words name place n) (record { name = name; pc = place; bound = n } ∷ [])
 unfolding bound_words
-bound_says name place n nameable small low =
-    let named = named_parts name nameable in
+bound_says name place n part small low =
     let last = codes "loop<=" ++ decimal n in
     let last_lacks : Lacks 32 last = (refl, (refl, (refl, (refl, (refl, (refl, number_lacks 32 (lit< tt) n)))))) in
-    let first = slice_split_at (is_mark 32) name 32 (decimal place ++ 32 ∷ last) (all_of 32 name (lacks_space name named.0)) refl in
+    let first = slice_split_at (is_mark 32) name 32 (decimal place ++ 32 ∷ last) (all_of 32 name part.space) refl in
     let second = slice_split_at (is_mark 32) (decimal place) 32 last (all_of 32 (decimal place) (number_lacks 32 (lit< tt) place)) refl in
     let third = slice_split_none (is_mark 32) last (all_of 32 last last_lacks) in (
-      λ silent. named.2 (silent_front name (32 ∷ (decimal place ++ 32 ∷ last)) named.1 silent),
+      λ silent. part.said (silent_front name (32 ∷ (decimal place ++ 32 ∷ last)) part.long silent),
       record {
         pc_text = decimal place;
         bound_text = decimal n;
         parts = first ∙ ap (λ (ps : List (List ℕ)). name ∷ ps) (second ∙ ap (λ (ps : List (List ℕ)). decimal place ∷ ps) third);
-        named = named.1;
+        named = part.long;
         pc = is_number place small;
         bound = is_number n low;
       },
     )
 
-number_given : (name : List ℕ) (place : ℕ) (o : Option ℕ) (lines : List (List ℕ)) (bs : List LoopBound) → is_nameable name ≡ true → place < 2 ^ 32 → ((n : ℕ) → o ≡ Some n → n < 2 ^ 32) → Give lines bs
+number_given : (name : List ℕ) (place : ℕ) (o : Option ℕ) (lines : List (List ℕ)) (bs : List LoopBound) → IsOnePart name → place < 2 ^ 32 → ((n : ℕ) → o ≡ Some n → n < 2 ^ 32) → Give lines bs
     → Give (number_words name place o ∷ lines) (cons_option (option_map (λ n. record { name = name; pc = place; bound = n }) o) bs)
 unfolding number_words wanting_words
-number_given name place None lines bs nameable small h more = ([], bs, refl, refl, more)
-number_given name place (Some n) lines bs nameable small h more = (record { name = name; pc = place; bound = n } ∷ [], bs, refl, bound_says name place n nameable small (h n refl), more)
+number_given name place None lines bs part small h more = ([], bs, refl, refl, more)
+number_given name place (Some n) lines bs part small h more = (record { name = name; pc = place; bound = n } ∷ [], bs, refl, bound_says name place n part small (h n refl), more)
 
 source_given : (s : Option (List ℕ × ℕ)) (lines : List (List ℕ)) (bs : List LoopBound) → Give lines bs → Give (source_words s ++ lines) bs
 unfolding source_words remark_words
@@ -185,29 +205,29 @@ source_given (Some s) lines bs more = ([], bs, refl, refl, more)
 
 -- ---- a header
 
--- its place and its number have 32 bits, and its file can be named
+-- its place and its number have 32 bits, and its file's name holds no line feed
 pub record IsReadable (notes : List Note) (name : List ℕ) (h : Header) : Type 0 where
   pub place : h.place < 2 ^ 32
-  pub file : (s : List ℕ × ℕ) → h.source ≡ Some s → is_unbroken s.0 ≡ true
-  pub number : (n : ℕ) → written notes name h ≡ Some n → n < 2 ^ 32
+  pub file : (s : List ℕ × ℕ) → h.source ≡ Some s → ¬ Contains s.0 10
+  pub number : (n : ℕ) → number_written notes name h ≡ Some n → n < 2 ^ 32
 
 -- its lines before others
-pub header_given : (notes : List Note) (name : List ℕ) (h : Header) (rest : List ℕ) (bs : List LoopBound) → is_nameable name ≡ true → IsReadable notes name h → Give (lines_of rest) bs
+pub header_given : (notes : List Note) (name : List ℕ) (h : Header) (rest : List ℕ) (bs : List LoopBound) → IsOnePart name → IsReadable notes name h → Give (lines_of rest) bs
     → Give (lines_of (header_lines notes name h ++ rest)) (cons_option (bound_written notes name h) bs)
-header_given notes name h rest bs nameable is more =
-    let o = written notes name h in
+header_given notes name h rest bs part is more =
+    let o = number_written notes name h in
     let lines : lines_of (header_lines notes name h ++ rest) ≡ source_words h.source ++ (number_words name h.place o ∷ lines_of rest) =
     ap lines_of (append_assoc (source_line h.source) (number_line name h.place o) rest)
-    ∙ (source_first h.source (number_line name h.place o ++ rest) is.file ∙ ap (λ (ls : List (List ℕ)). source_words h.source ++ ls) (number_first name h.place o rest (named_parts name nameable).0)) in
+    ∙ (source_first h.source (number_line name h.place o ++ rest) is.file ∙ ap (λ (ls : List (List ℕ)). source_words h.source ++ ls) (number_first name h.place o rest part.feed)) in
     subst (λ (ls : List (List ℕ)). Give ls (cons_option (bound_written notes name h) bs)) (sym lines)
-    (source_given h.source (number_words name h.place o ∷ lines_of rest) (cons_option (bound_written notes name h) bs) (number_given name h.place o (lines_of rest) bs nameable is.place is.number more))
+    (source_given h.source (number_words name h.place o ∷ lines_of rest) (cons_option (bound_written notes name h) bs) (number_given name h.place o (lines_of rest) bs part is.place is.number more))
 
 pub headers_read : HeadersAreRead
-headers_read notes name [] nameable range = refl
-headers_read notes name (h ∷ hs) nameable range =
+headers_read notes name [] word range = refl
+headers_read notes name (h ∷ hs) word range =
     let r = range.0 in
-    header_given notes name h (flat_map (header_lines notes name) hs) (filter_map (bound_written notes name) hs) nameable (record { place = r.place; file = λ s is. (r.source s is).0; number = r.number })
-    (headers_read notes name hs nameable range.1)
+    header_given notes name h (flat_map (header_lines notes name) hs) (filter_map (bound_written notes name) hs) (word_is name word) (record { place = r.place; file = λ s is. (r.source s is).0; number = r.number })
+    (headers_read notes name hs word range.1)
 
 -- ---- remarks
 
@@ -225,19 +245,9 @@ spaced_lacks (u ∷ nodes) = lacks_both 10 (spaced u) (flat_map spaced nodes) (r
     suffix_lacks true = (refl, tt)
     suffix_lacks false = tt
 
-regroup_unnamed : (a b c rest : List ℕ) → (a ++ (b ++ (c ++ 10 ∷ []))) ++ rest ≡ (a ++ (b ++ c)) ++ 10 ∷ rest
-regroup_unnamed a b c rest = simp append_assoc
-
-pub irreducible_given : (name nodes rest : List ℕ) (bs : List LoopBound) → is_nameable name ≡ true → Give (lines_of rest) bs → Give (lines_of (irreducible_line name nodes ++ rest)) bs
-irreducible_given name nodes rest bs nameable more =
+pub irreducible_given : (name nodes rest : List ℕ) (bs : List LoopBound) → IsOnePart name → Give (lines_of rest) bs → Give (lines_of (irreducible_line name nodes ++ rest)) bs
+irreducible_given name nodes rest bs part more =
     let words = codes "# " ++ (name ++ (codes " irreducible" ++ flat_map spaced nodes)) in
     let last : Lacks 10 (codes " irreducible" ++ flat_map spaced nodes) = lacks_both 10 (codes " irreducible") (flat_map spaced nodes) (search rules) (spaced_lacks nodes) in
-    let lacks : Lacks 10 words = (refl, (refl, lacks_both 10 name (codes " irreducible" ++ flat_map spaced nodes) (lacks_feed name (named_parts name nameable).0) last)) in
+    let lacks : Lacks 10 words = (refl, (refl, lacks_both 10 name (codes " irreducible" ++ flat_map spaced nodes) part.feed last)) in
     subst (λ (text : List ℕ). Give (lines_of text) bs) (sym (regroup_source (codes "# ") name (codes " irreducible") (flat_map spaced nodes) rest)) (silent_given words rest bs lacks refl more)
-
-pub unnamed_given : (m : ℕ) (rest : List ℕ) (bs : List LoopBound) → Give (lines_of rest) bs → Give (lines_of (unnamed_line m ++ rest)) bs
-unnamed_given m rest bs more =
-    let words = codes "# method=" ++ (decimal m ++ codes " unnamed") in
-    let last : Lacks 10 (decimal m ++ codes " unnamed") = lacks_both 10 (decimal m) (codes " unnamed") (number_lacks 10 (lit< tt) m) (search rules) in
-    let lacks : Lacks 10 words = lacks_both 10 (codes "# method=") (decimal m ++ codes " unnamed") (search rules) last in
-    subst (λ (text : List ℕ). Give (lines_of text) bs) (sym (regroup_unnamed (codes "# method=") (decimal m) (codes " unnamed") rest)) (silent_given words rest bs lacks refl more)

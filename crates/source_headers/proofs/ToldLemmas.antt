@@ -1,9 +1,10 @@
 -- What is told of a method is of it.
-use Rattle.std.proofs.Common.{◌≡◌, ◌≢◌, ℕ, ◌*◌, ◌<◌, List, [], ◌∷◌, length, map, Contains, refl, sym, ◌∙◌, ap, subst, arith, Option, Some, inl}
-use Rattle.std.specs.Prelude.{slice_get, Result, Ok, Err, IfOk}
+use Rattle.std.proofs.Common.{◌≡◌, ◌≢◌, ℕ, ◌*◌, ◌<◌, List, [], ◌∷◌, length, map, Contains, refl, sym, ◌∙◌, ap, subst, arith, Option, Some, None, true, false, inl, inr}
+use Rattle.std.specs.Prelude.{slice_get, IsSome, Result, Ok, Err, IfOk}
+use Rattle.std.proofs.lemmas.Bool.{cases_lt, eqb-true}
 use Rattle.std.proofs.lemmas.List.Elements.{All-contains}
 use Rattle.std.proofs.lemmas.Option.{slice_get_within, get_or_from_slice_get}
-use Rattle.lists.proofs.Lemmas.{some_same, some_is}
+use Rattle.lists.proofs.Lemmas.{none≢some, some_is}
 use Rattle.lists.specs.Members.{nil_contains}
 use Rattle.class_pool.specs.declared.class.ClassFile.{ClassFile}
 use Rattle.class_pool.specs.declared.class.Code.{Code}
@@ -24,8 +25,9 @@ use Rattle.method_sources.specs.declared.sources.MethodSource.{MethodSource}
 use Rattle.method_sources.specs.Sources.{code_in, source_at}
 use Rattle.method_sources.specs.Told.{source_by, IsSourceOf}
 use Rattle.method_sources.proofs.BodyLemmas.{body_is}
+use Rattle.report_rows.specs.Rows.{IsCodePlace}
 use Rattle.source_headers.specs.Straying.{IsHeaderAt}
-use Rattle.source_headers.specs.Told.{headed_places}
+use Rattle.source_headers.specs.Told.{headed_places, has_no_loops, IsToldPlace}
 
 pub contains_got : {X : Type 0} (xs : List X) (i : ℕ) (x : X) → slice_get xs i ≡ Some x → Contains xs x
 contains_got xs i x h = (i, slice_get_within xs i x h, get_or_from_slice_get xs i x x h)
@@ -33,36 +35,65 @@ contains_got xs i x h = (i, slice_get_within xs i x h, get_or_from_slice_get xs 
 -- ---- the method with a code
 
 -- the header of a loop is within the code
-header_within : MethodsStandByNumber → (cs : List ClassFile) (m p : ℕ) → HeadsLoop (resolved cs) m p → (k : Code) → code_in cs m ≡ Some k → p < length k.code
-header_within by_number cs m p h k is =
-    let b = some_is (body_of (resolved cs) m) (λ (b : Body). h.graph.nodes ≡ 2 * length b.code) h.is_graph.size in
-    let body = body_is by_number cs m b.0 b.1 in
-    let same : body.code.code ≡ k.code = ap (λ (x : Code). x.code) (some_same body.code k (sym body.code_is ∙ is)) in
+header_within : (P : Program) (m p : ℕ) → HeadsLoop P m p → IsCodePlace P m p
+header_within P m p h =
+    let b = some_is (body_of P m) (λ (b : Body). h.graph.nodes ≡ 2 * length b.code) h.is_graph.size in
     let ends = All-contains (λ (e : ℕ × ℕ). (e.0 < h.graph.nodes) × (e.1 < h.graph.nodes)) h.graph.edges (h.header.0, 2 * p) h.is_graph.digraph.edges.ends h.header.1.edge in
-    let long : length b.0.code ≡ length k.code = ap length (body.same ∙ same) in
-    omega (arith, ends.1, b.2, long)
+    (b.0, b.1, omega (arith, ends.1, b.2))
 
-pub places_within : MethodsStandByNumber → (cs : List ClassFile) (m : ℕ) (shape : Shape) → IsShape (resolved cs) m shape → (p : ℕ) → Contains (headed_places shape) p → (k : Code) → code_in cs m ≡ Some k
-    → p < length k.code
-places_within by_number cs m (Irreducible nodes) h p c k is = absurd (nil_contains p c)
-places_within by_number cs m (Reducible places) h p c k is = header_within by_number cs m p ((h.1.each p).0 c) k is
+told_within : (P : Program) (m : ℕ) (shape : Shape) → IsShape P m shape → (p : ℕ) → IsToldPlace P m shape p → IsCodePlace P m p
+told_within P m (Irreducible nodes) h p within = within
+told_within P m (Reducible places) h p c = header_within P m p ((h.1.each p).0 c)
 
--- where a loop is headed, the method has a code
-pub places_coded : MethodsStandByNumber → (cs : List ClassFile) (m : ℕ) (shape : Shape) → IsShape (resolved cs) m shape → (p : ℕ) → Contains (headed_places shape) p → (k : Code) × (code_in cs m ≡ Some k)
-places_coded by_number cs m (Irreducible nodes) h p c = absurd (nil_contains p c)
-places_coded by_number cs m (Reducible places) h p c =
-    let heads = (h.1.each p).0 c in
-    let b = some_is (body_of (resolved cs) m) (λ (b : Body). heads.graph.nodes ≡ 2 * length b.code) heads.is_graph.size in
-    let body = body_is by_number cs m b.0 b.1 in
-    (body.code, body.code_is)
+-- a place that is within a code
+pub record IsPlaceIn (cs : List ClassFile) (m p : ℕ) : Type 0 where
+  pub code : Code
+  pub code_is : code_in cs m ≡ Some code
+  pub within : p < length code.code
+
+place_in : MethodsStandByNumber → (cs : List ClassFile) (m p : ℕ) → IsCodePlace (resolved cs) m p → IsPlaceIn cs m p
+place_in by_number cs m p h =
+    let body = body_is by_number cs m h.0 h.1 in
+    record { code = body.code; code_is = body.code_is; within = subst (λ (bytes : List ℕ). p < length bytes) body.same h.2 }
+
+pub header_in : MethodsStandByNumber → (cs : List ClassFile) (m : ℕ) (shape : Shape) → IsShape (resolved cs) m shape → (p : ℕ) → Contains (headed_places shape) p → IsPlaceIn cs m p
+header_in by_number cs m (Irreducible nodes) h p c = absurd (nil_contains p c)
+header_in by_number cs m (Reducible places) h p c = place_in by_number cs m p (header_within (resolved cs) m p ((h.1.each p).0 c))
 
 -- ---- its source
 
 pub source_at_places : {E : Type 0} → MethodsStandByNumber → (cs : List ClassFile) (m : ℕ) (shape : Shape) → IsShape (resolved cs) m shape → (r : Result (Option MethodSource) E) → IfOk r (IsSourceOf cs m)
-    → IfOk r (λ source. (p : ℕ) → Contains (headed_places shape) p → source_by source p ≡ source_at cs m p)
-source_at_places by_number cs m shape h (Ok source) is =
-    λ p c. let k = places_coded by_number cs m shape h p c in is.lines k.0 k.1 p (places_within by_number cs m shape h p c k.0 k.1)
+    → IfOk r (λ source. (p : ℕ) → IsToldPlace (resolved cs) m shape p → source_by source p ≡ source_at cs m p)
+source_at_places by_number cs m shape h (Ok source) is = λ p told.
+    let at = place_in by_number cs m p (told_within (resolved cs) m shape h p told) in is.lines at.code at.code_is p at.within
 source_at_places by_number cs m shape h (Err e) is = tt
+
+body_there : (o : Option Body) → IsSome o → (b : Body) × (o ≡ Some b)
+body_there None h = absurd (let f : false ≡ true = h in cc)
+body_there (Some b) h = (b, refl)
+
+source_within : MethodsStandByNumber → (cs : List ClassFile) (m : ℕ) → IsSome (body_of (resolved cs) m) → (source : Option MethodSource) → IsSourceOf cs m source → (p : ℕ) (s : List ℕ × ℕ)
+    → source_by source p ≡ Some s → IsCodePlace (resolved cs) m p
+source_within by_number cs m coded source is p s told =
+    let b = body_there (body_of (resolved cs) m) coded in
+    let body = body_is by_number cs m b.0 b.1 in
+    elim (cases_lt p (length body.code.code)) [
+      | inl lt ↦ (b.0, b.1, subst (λ (bytes : List ℕ). p < length bytes) (sym body.same) lt)
+      | inr ge ↦ absurd (none≢some s (sym (is.beyond body.code body.code_is p ge) ∙ told))
+    ]
+
+pub source_in_code : {E : Type 0} → MethodsStandByNumber → (cs : List ClassFile) (m : ℕ) → IsSome (body_of (resolved cs) m) → (r : Result (Option MethodSource) E) → IfOk r (IsSourceOf cs m)
+    → IfOk r (λ source. (p : ℕ) (s : List ℕ × ℕ) → source_by source p ≡ Some s → IsCodePlace (resolved cs) m p)
+source_in_code by_number cs m coded (Ok source) is = source_within by_number cs m coded source is
+source_in_code by_number cs m coded (Err e) is = tt
+
+-- a method of no loops has no such places
+pub told_nowhere : (P : Program) (m : ℕ) (shape : Shape) → has_no_loops shape ≡ true → (p : ℕ) → IsToldPlace P m shape p → ⊥
+told_nowhere P m (Irreducible nodes) none p told = absurd (let f : false ≡ true = none in cc)
+told_nowhere P m (Reducible places) none p told =
+    let empty : length places.items ≡ 0 = eqb-true (length places.items) 0 none in
+    let below = told.1 in
+    omega arith
 
 -- ---- all headers
 

@@ -12,9 +12,10 @@ use Rattle.class_pool.specs.declared.class.ClassFile.{ClassFile}
 use Rattle.class_rules.specs.Found.{MethodsHaveCode}
 use Rattle.bytecode_model.specs.Program.{Body, body_of}
 use Rattle.program_tables.specs.Laws.{MethodsStandByNumber}
-use Rattle.program_tables.specs.Resolved.{resolved, method_name}
+use Rattle.program_tables.specs.Resolved.{resolved}
 use Rattle.program_tables.specs.Resolving.{IsResolved}
-use Rattle.method_names.specs.Names.{NamesAreOne}
+use Rattle.method_names.specs.Laws.{WrittenAreWords, WrittenNamesAreOne}
+use Rattle.method_names.specs.Written.{written_name}
 use Rattle.compact_walks.specs.Laws.{GraphsAreMoved, PartsAreSound, EndsAreOne}
 use Rattle.loop_nest.specs.Digraph.{Digraph}
 use Rattle.loop_nest.specs.Walks.{IsHeader}
@@ -34,9 +35,8 @@ use Rattle.bound_causes.specs.declared.shapes.Shape.TheVariants.{Irreducible, Re
 use Rattle.method_flow.specs.Graphs.{IsGraphOf}
 use Rattle.method_flow.specs.Keeping.{BoundOf}
 use Rattle.method_flow.specs.Regions.{IsWithin}
-use Rattle.answer_lines.specs.LoopLine.{is_nameable}
 use Rattle.method_sources.specs.Sources.{source_at}
-use Rattle.source_headers.specs.Headers.{found_at, header_at, said, said_of_line, written}
+use Rattle.source_headers.specs.Headers.{found_at, header_at, said, said_of_line}
 use Rattle.source_headers.specs.Straying.{MayBeBounded, IsHeaderAt}
 use Rattle.source_headers.specs.Files.{AreMethodTexts, IsHeaderFile}
 use Rattle.source_headers.specs.Laws.{written_of}
@@ -44,7 +44,7 @@ use Rattle.source_headers.specs.Whole.{IsWritten, GivesWritten, HeaderFilesAreRe
 use Rattle.source_headers.proofs.ToldLemmas.{not_both}
 use Rattle.source_headers.proofs.BoundLemmas.{first_is, not_absent, both_different}
 use Rattle.source_headers.proofs.RangeLemmas.{AreFoundSmall, found_there}
-use Rattle.source_headers.proofs.LawLemmas.{lesser_is, chosen, shape_there, have_lines, kept}
+use Rattle.source_headers.proofs.LawLemmas.{lesser_is, shape_there, have_lines, kept}
 use Rattle.source_headers.proofs.MethodLemmas.{MethodGives, method_given}
 
 -- ---- the methods from one on
@@ -62,9 +62,9 @@ record GiveFrom (cs : List ClassFile) (notes : List Note) (found : List FoundLoo
   pub each : (b : LoopBound) → Contains bounds b ↔ IsWrittenFrom cs notes found m (length texts) b
   pub different : AreOfDifferentLoops bounds
 
-module _ (names : NamesAreOne) (cs : List ClassFile) (r : IsResolved cs) (notes : List Note) (found : List FoundLoop) where
+module _ (names : WrittenNamesAreOne) (cs : List ClassFile) (r : IsResolved cs) (notes : List Note) (found : List FoundLoop) where
   one_method : (m n : ℕ) (b c : LoopBound) → IsWritten cs notes found m b → IsWritten cs notes found n c → c.name ≡ b.name → m ≡ n
-  one_method m n b c h k same = names cs r m n h.header.bounded.0 k.header.bounded.0 (sym h.name ∙ sym same ∙ k.name)
+  one_method m n b c h k same = names.one cs r m n h.header.bounded.0 k.header.bounded.0 (sym h.name ∙ sym same ∙ k.name)
 
   module _ (m : ℕ) (text : List ℕ) (texts : List (List ℕ)) (first : MethodGives cs notes found m text) (rest : GiveFrom cs notes found (suc m) texts) where
     to_from : (b : LoopBound) → Contains first.bounds b ⊎ Contains rest.bounds b → IsWrittenFrom cs notes found m (suc (length texts)) b
@@ -128,32 +128,33 @@ module _ (names : NamesAreOne) (cs : List ClassFile) (r : IsResolved cs) (notes 
         (all.each b).1 (record { method = m; least = omega arith; below = omega (arith, below); is = is })
 
     -- what is given by the name of a method with code is written for it
-    written_for : (m p n : ℕ) → IsSome (body_of (resolved cs) m) → bound_in (method_name cs m) p all.bounds ≡ Some n → IsWritten cs notes found m (record { name = method_name cs m; pc = p; bound = n })
+    written_for : (m p n : ℕ) → IsSome (body_of (resolved cs) m) → bound_in (written_name cs m) p all.bounds ≡ Some n → IsWritten cs notes found m (record { name = written_name cs m; pc = p; bound = n })
     written_for m p n coded h =
-        let f = first_is (method_name cs m) p n all.bounds h in
+        let f = first_is (written_name cs m) p n all.bounds h in
         let w = (all.each f.given).0 f.among in
-        let same : w.method ≡ m = names cs r w.method m w.is.header.bounded.0 coded (sym w.is.name ∙ f.is.name) in
-        let number : f.given ≡ record { name = method_name cs m; pc = p; bound = n } =
-        ap (λ (name : List ℕ). record { name = name; pc = f.given.pc; bound = f.given.bound }) f.is.name ∙ ap (λ (q : ℕ). record { name = method_name cs m; pc = q; bound = f.given.bound }) f.is.pc
-        ∙ ap (λ (k : ℕ). record { name = method_name cs m; pc = p; bound = k }) f.bound in
+        let same : w.method ≡ m = names.one cs r w.method m w.is.header.bounded.0 coded (sym w.is.name ∙ f.is.name) in
+        let number : f.given ≡ record { name = written_name cs m; pc = p; bound = n } =
+        ap (λ (name : List ℕ). record { name = name; pc = f.given.pc; bound = f.given.bound }) f.is.name ∙ ap (λ (q : ℕ). record { name = written_name cs m; pc = q; bound = f.given.bound }) f.is.pc
+        ∙ ap (λ (k : ℕ). record { name = written_name cs m; pc = p; bound = k }) f.bound in
         subst (IsWritten cs notes found m) number (subst (λ (x : ℕ). IsWritten cs notes found x f.given) same w.is)
 
-    headers_by : (m p : ℕ) → IsHeaderAt (resolved cs) m p → (given written : Option ℕ) → bound_in (method_name cs m) p all.bounds ≡ given → written_of cs notes found m p ≡ written → given ≡ written
+    headers_by : (m p : ℕ) → IsHeaderAt (resolved cs) m p → (given written : Option ℕ) → bound_in (written_name cs m) p all.bounds ≡ given → written_of cs notes found m p ≡ written → given ≡ written
     headers_by m p at (Some n) written e f = sym (written_for m p n at.bounded.0 e).number ∙ f
     headers_by m p at None None e f = refl
     headers_by m p at None (Some n) e f =
-        let b : LoopBound = record { name = method_name cs m; pc = p; bound = n } in
+        let b : LoopBound = record { name = written_name cs m; pc = p; bound = n } in
         absurd (not_absent b all.bounds (there m b (record { header = at; name = refl; number = f })) e)
 
     gives_written : GivesWritten cs notes found (concat texts)
     gives_written = record {
       bounds = all.bounds;
       read = record { given = all.given; different = all.different };
-      headers = λ m p at. headers_by m p at (bound_in (method_name cs m) p all.bounds) (written_of cs notes found m p) refl refl;
+      headers = λ m p at. headers_by m p at (bound_in (written_name cs m) p all.bounds) (written_of cs notes found m p) refl refl;
       others = λ b c. let w = (all.each b).0 c in (w.method, w.is);
     }
 
-module _ (moves : GraphsAreMoved) (sound : PartsAreSound) (ends : EndsAreOne) (one : GraphsAreOne) (have : MethodsHaveCode) (by_number : MethodsStandByNumber) (names : NamesAreOne) where
+module _ (moves : GraphsAreMoved) (sound : PartsAreSound) (ends : EndsAreOne) (one : GraphsAreOne) (have : MethodsHaveCode) (by_number : MethodsStandByNumber) (words : WrittenAreWords)
+    (names : WrittenNamesAreOne) where
   pub files_are_read : HeaderFilesAreRead
   unfolding AreFoundSmall
   files_are_read cs lines text r h =
@@ -163,21 +164,21 @@ module _ (moves : GraphsAreMoved) (sound : PartsAreSound) (ends : EndsAreOne) (o
       let coded = (h.methods.coded k).1 (slice_get_within h.texts k t at) in
       let zero_is : 0 + k ≡ k = omega arith in
       subst (λ (n : ℕ). MethodGives cs h.notes h.found n t) (sym zero_is)
-      (method_given moves sound ends one have by_number cs r lines h.notes h.found h.read small k t coded (h.methods.each k t at)) in
+      (method_given moves sound ends one words have by_number cs r lines h.notes h.found h.read small k (names.words cs k coded) t coded (h.methods.each k t at)) in
       subst (GivesWritten cs h.notes h.found) (sym h.text_is) (gives_written names cs r h.notes h.found h.texts h.methods (texts_given names cs r h.notes h.found h.texts 0 each))
 
 -- ---- by methods
 
-module _ (files : HeaderFilesAreRead) (names : NamesAreOne) (gives : GivesOne) where
+module _ (files : HeaderFilesAreRead) (names : WrittenNamesAreOne) (gives : GivesOne) where
   module _ (cs : List ClassFile) (r : IsResolved cs) (notes : List Note) (found : List FoundLoop) (text : List ℕ) (g : GivesWritten cs notes found text) where
     -- the bound of a loop is what is written for it
     bound_there : (m p n : ℕ) → bounds_by cs g.bounds m p ≡ Some n → IsHeaderAt (resolved cs) m p × (written_of cs notes found m p ≡ Some n)
     bound_there m p n h =
-        let b = onto_some (body_of (resolved cs) m) (λ b. bound_in (method_name cs m) p g.bounds) n h in
+        let b = onto_some (body_of (resolved cs) m) (λ b. bound_in (written_name cs m) p g.bounds) n h in
         let coded : IsSome (body_of (resolved cs) m) = ap is_some b.1 in
-        let f = first_is (method_name cs m) p n g.bounds b.2 in
+        let f = first_is (written_name cs m) p n g.bounds b.2 in
         let w = g.others f.given f.among in
-        let same : w.0 ≡ m = names cs r w.0 m w.1.header.bounded.0 coded (sym w.1.name ∙ f.is.name) in
+        let same : w.0 ≡ m = names.one cs r w.0 m w.1.header.bounded.0 coded (sym w.1.name ∙ f.is.name) in
         let header : IsHeaderAt (resolved cs) m p = subst (λ (x : ℕ). IsHeaderAt (resolved cs) x p) same (subst (IsHeaderAt (resolved cs) w.0) f.is.pc w.1.header) in
         (header, sym (ap (λ (x : ℕ). written_of cs notes found x p) same) ∙ sym (ap (λ (q : ℕ). written_of cs notes found w.0 q) f.is.pc) ∙ w.1.number ∙ ap Some f.bound)
 
@@ -187,7 +188,7 @@ module _ (files : HeaderFilesAreRead) (names : NamesAreOne) (gives : GivesOne) w
       where
         by : (o : Option Body) → body_of (resolved cs) m ≡ o → bounds_by cs g.bounds m p ≡ written_of cs notes found m p
         by None e = let bad : false ≡ true = sym (ap is_some e) ∙ at.bounded.0 in absurd (let none : ⊥ = cc in none)
-        by (Some b) e = ap (λ (o : Option Body). onto o (λ x. bound_in (method_name cs m) p g.bounds)) e ∙ g.headers m p at
+        by (Some b) e = ap (λ (o : Option Body). onto o (λ x. bound_in (written_name cs m) p g.bounds)) e ∙ g.headers m p at
 
   of_text : (cs : List ClassFile) (lines text : List ℕ) → IsResolved cs → (h : IsHeaderFile cs lines text) → (bounds : List LoopBound) → IsRead text bounds
       → (g : GivesWritten cs h.notes h.found text) × (g.bounds ≡ bounds)
@@ -209,9 +210,9 @@ module _ (files : HeaderFilesAreRead) (names : NamesAreOne) (gives : GivesOne) w
 
   pub found_or_said : FileBoundsAreFoundOrSaid
   found_or_said cs lines text r h bounds read m p n is =
-      let name = method_name cs m in
+      let name = written_name cs m in
       let header = header_at cs h.found m p in
-      let number = chosen (is_nameable name) (written h.notes name header) n (written_there cs lines text r h bounds read m p n is) in
+      let number = written_there cs lines text r h bounds read m p n is in
       elim (lesser_is (found_at h.found m p) (said h.notes name header) n number) [
         | inl of ↦ inl (counted h.found (λ x c. (h.counted.each x).0 c) m p n of)
         | inr say ↦ inr (lesser_is (said_of_line h.notes (source_at cs m p)) (bound_in_notes (AtPlace name p) h.notes) n say)

@@ -1,10 +1,10 @@
 -- The text of bounds of a program's loops, with the lines of their sources, by what is found and what is said of lines.
-use Rattle.std.specs.Prelude.{◌≡◌, ◌↔◌, ℕ, ◌<◌, ℤ, List, [], length, Contains, Option, Some, IsSome, slice_get}
+use Rattle.std.specs.Prelude.{◌≡◌, ◌↔◌, ℕ, ◌<◌, ℤ, List, length, Contains, Option, Some, IsSome, slice_get}
 use Rattle.std.specs.List.{concat}
 use Rattle.class_pool.specs.declared.class.ClassFile.{ClassFile}
-use Rattle.program_tables.specs.Resolved.{resolved, at_method, method_name}
-use Rattle.program_tables.specs.Numbers.{method_text}
+use Rattle.program_tables.specs.Resolved.{resolved}
 use Rattle.bytecode_model.specs.Program.{body_of}
+use Rattle.method_names.specs.Written.{written_name}
 use Rattle.loop_rules.specs.declared.found.FoundLoop.{FoundLoop}
 use Rattle.loop_rules.specs.Finding.{AreCountedLoops}
 use Rattle.loop_rules.specs.Sites.{int_at}
@@ -20,13 +20,13 @@ use Rattle.source_headers.specs.Straying.{IsStray, IsFirstStray}
 -- the texts are those of the methods with code, by number
 pub record AreMethodTexts (cs : List ClassFile) (notes : List Note) (found : List FoundLoop) (texts : List (List ℕ)) : Type 0 where
   pub coded : (m : ℕ) → IsSome (body_of (resolved cs) m) ↔ (m < length texts)
-  pub each : (m : ℕ) (text : List ℕ) → slice_get texts m ≡ Some text → IsMethodText (resolved cs) cs notes found (method_name cs) m text
+  pub each : (m : ℕ) (text : List ℕ) → slice_get texts m ≡ Some text → IsMethodText (resolved cs) cs notes found (written_name cs) m text
 
 -- The text is that of the program's headers, methods and places rising, with numbers by the loops that count and by the lines, of which none strays.
 pub record IsHeaderFile (cs : List ClassFile) (lines text : List ℕ) : Type 0 where
   pub notes : List Note
   pub read : AreNotesRead lines notes
-  pub used : (n : Note) → Contains notes n → ¬ IsStray cs (method_name cs) n.subject
+  pub used : (n : Note) → Contains notes n → ¬ IsStray cs (written_name cs) n.subject
   pub constants : List (Option ℤ)
   pub are : AreConstants cs constants
   pub found : List FoundLoop
@@ -46,5 +46,5 @@ IsLinesFault lines NoMemory = Unit {0}
 abbrev pub IsHeaderFault : List ClassFile → (lines : List ℕ) → HeaderFault → Type 0
 IsHeaderFault cs lines (BadLine n) = AreNotesRefused lines (faults.Line n)
 IsHeaderFault cs lines (TwiceLine n) = AreNotesRefused lines (faults.Twice n)
-IsHeaderFault cs lines (Stray subject) = (notes : List Note) × AreNotesRead lines notes × IsFirstStray cs (method_name cs) notes subject.items
+IsHeaderFault cs lines (Stray subject) = (notes : List Note) × AreNotesRead lines notes × IsFirstStray cs (written_name cs) notes subject.items
 IsHeaderFault cs lines NoMemory = Unit {0}

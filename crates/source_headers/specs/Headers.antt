@@ -8,7 +8,7 @@ use Rattle.bound_cert.specs.CertLines.{node_text}
 use Rattle.bound_causes.specs.Shapes.{IsShape}
 use Rattle.bound_causes.specs.declared.shapes.Shape.{Shape}
 use Rattle.bound_causes.specs.declared.shapes.Shape.TheVariants.{Irreducible, Reducible}
-use Rattle.answer_lines.specs.LoopLine.{is_nameable, loop_line}
+use Rattle.answer_lines.specs.LoopLine.{loop_line}
 use Rattle.method_sources.specs.Sources.{source_at}
 
 -- ---- one header
@@ -35,8 +35,8 @@ abbrev pub said : List Note → (name : List ℕ) → Header → Option ℕ
 said notes name h = lesser (said_of_line notes h.source) (bound_in (AtPlace name h.place) notes)
 
 -- the number that is written: the least of those that are found or said, so that a run which keeps what is said keeps it
-abbrev pub written : List Note → (name : List ℕ) → Header → Option ℕ
-written notes name h = lesser h.found (said notes name h)
+abbrev pub number_written : List Note → (name : List ℕ) → Header → Option ℕ
+number_written notes name h = lesser h.found (said notes name h)
 
 -- ---- lines
 
@@ -53,7 +53,7 @@ number_line name place None = wanting_line name place
 number_line name place (Some n) = loop_line name place n
 
 abbrev pub header_lines : List Note → (name : List ℕ) → Header → List ℕ
-header_lines notes name h = source_line h.source ++ number_line name h.place (written notes name h)
+header_lines notes name h = source_line h.source ++ number_line name h.place (number_written notes name h)
 
 -- a node behind a space: its place, and an r where it is a raise step
 abbrev pub spaced : (node : ℕ) → List ℕ
@@ -62,10 +62,6 @@ spaced u = codes " " ++ node_text u
 -- the remark on a method whose loops have several entries: the nodes that the reduction of its graph leaves
 abbrev pub irreducible_line : (name : List ℕ) → (nodes : List ℕ) → List ℕ
 irreducible_line name nodes = codes "# " ++ (name ++ (codes " irreducible" ++ (flat_map spaced nodes ++ codes "\n")))
-
--- the remark on a method of which a text of bounds can't name a loop
-abbrev pub unnamed_line : (method : ℕ) → List ℕ
-unnamed_line m = codes "# method=" ++ (decimal m ++ codes " unnamed\n")
 
 -- ---- a method
 
@@ -78,16 +74,9 @@ abbrev pub header_at : List ClassFile → List FoundLoop → (method place : ℕ
 header_at cs found m p = record { place = p; source = source_at cs m p; found = found_at found m p }
 
 -- the lines of a method by the shape of its loops: a header's, behind one another, or the remark on it
-abbrev pub named_lines : List ClassFile → List Note → List FoundLoop → (method : ℕ) → (name : List ℕ) → Shape → List ℕ
-named_lines cs notes found m name (Reducible places) = flat_map (λ p. header_lines notes name (header_at cs found m p)) places.items
-named_lines cs notes found m name (Irreducible nodes) = irreducible_line name nodes.items
-
-abbrev pub unnamed_lines : (method : ℕ) → Shape → List ℕ
-unnamed_lines m (Reducible places) = elim places.items [ [] ↦ [] | (p ∷ ps) ↦ unnamed_line m ]
-unnamed_lines m (Irreducible nodes) = unnamed_line m
-
 abbrev pub method_lines : List ClassFile → List Note → List FoundLoop → (method : ℕ) → (name : List ℕ) → Shape → List ℕ
-method_lines cs notes found m name shape = if is_nameable name then named_lines cs notes found m name shape else unnamed_lines m shape
+method_lines cs notes found m name (Reducible places) = flat_map (λ p. header_lines notes name (header_at cs found m p)) places.items
+method_lines cs notes found m name (Irreducible nodes) = irreducible_line name nodes.items
 
 -- The text is that of the method: none of the one that is run first.
 abbrev pub IsMethodText : Program → List ClassFile → List Note → List FoundLoop → (name : ℕ → List ℕ) → (method : ℕ) → (text : List ℕ) → Type 0

@@ -8,7 +8,7 @@ use Rattle.source_headers.specs.declared.fault.HeaderFault.{HeaderFault}
 use Rattle.source_headers.specs.declared.fault.HeaderFault.TheVariants.{BadLine, TwiceLine, Stray, NoMemory}
 use Rattle.source_headers.specs.declared.gathering.Gathered.{Gathered}
 use Rattle.source_headers.specs.Files.{AreMethodTexts}
-use Rattle.program_tables.specs.Resolved.{method_name}
+use Rattle.method_names.specs.Written.{written_name}
 use Rattle.source_headers.specs.Straying.{IsStray, IsFirstStray, subject_text}
 use Rattle.source_headers.specs.Gathered.{IsLacking}
 
@@ -39,7 +39,7 @@ IsLackingFault g notes (TwiceLine n) = ⊥
 
 -- the same of the program
 abbrev pub IsStrayFault : List ClassFile → List Note → HeaderFault → Type 0
-IsStrayFault cs notes (Stray text) = IsFirstStray cs (method_name cs) notes text.items
+IsStrayFault cs notes (Stray text) = IsFirstStray cs (written_name cs) notes text.items
 IsStrayFault cs notes NoMemory = Unit {0}
 IsStrayFault cs notes (BadLine n) = ⊥
 IsStrayFault cs notes (TwiceLine n) = ⊥
@@ -52,7 +52,7 @@ AreUsedBy g notes = (n : Note) → Contains notes n → ¬ IsLacking g n.subject
 
 -- The text is that of the program's headers by what is found and what is said, of which nothing strays.
 pub record IsFileBy (cs : List ClassFile) (notes : List Note) (found : List FoundLoop) (text : List ℕ) : Type 0 where
-  pub used : (n : Note) → Contains notes n → ¬ IsStray cs (method_name cs) n.subject
+  pub used : (n : Note) → Contains notes n → ¬ IsStray cs (written_name cs) n.subject
   pub texts : List (List ℕ)
   pub methods : AreMethodTexts cs notes found texts
   pub text_is : text ≡ concat texts

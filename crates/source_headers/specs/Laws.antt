@@ -1,7 +1,8 @@
 -- What follows of the text of a program's headers.
-use Rattle.std.specs.Prelude.{◌↔◌, ℕ, List, Contains, None, IsSome, IsTrue, if◌then◌else◌}
+use Rattle.std.specs.Prelude.{◌↔◌, ℕ, List, Contains, IsSome}
 use Rattle.class_pool.specs.declared.class.ClassFile.{ClassFile}
-use Rattle.program_tables.specs.Resolved.{resolved, method_name}
+use Rattle.program_tables.specs.Resolved.{resolved}
+use Rattle.method_names.specs.Written.{written_name}
 use Rattle.method_flow.specs.Keeping.{BoundOf, WalkKeeps}
 use Rattle.method_flow.specs.Regions.{IsWithin}
 use Rattle.loop_rules.specs.declared.found.FoundLoop.{FoundLoop}
@@ -10,15 +11,14 @@ use Rattle.bound_rules.specs.Bounding.{AreReducible, HaveLines}
 use Rattle.bound_causes.specs.Shapes.{IsShape}
 use Rattle.bound_causes.specs.declared.shapes.Shape.{Shape}
 use Rattle.bound_causes.specs.declared.shapes.Shape.TheVariants.{Irreducible, Reducible}
-use Rattle.answer_lines.specs.LoopLine.{is_nameable}
 use Rattle.method_sources.specs.Sources.{source_at}
-use Rattle.source_headers.specs.Headers.{found_at, header_at, said_of_line, written}
+use Rattle.source_headers.specs.Headers.{found_at, header_at, said_of_line, number_written}
 use Rattle.source_headers.specs.Straying.{MayBeBounded}
 use Rattle.source_headers.specs.Files.{AreMethodTexts}
 
 -- the number that is written for the loop with the header at a place of a method that isn't the one that is run first
 abbrev pub written_of : List ClassFile → List Note → List FoundLoop → BoundOf
-written_of cs notes found m p = if is_nameable (method_name cs m) then written notes (method_name cs m) (header_at cs found m p) else None
+written_of cs notes found m p = number_written notes (written_name cs m) (header_at cs found m p)
 
 -- ---- the loops that have numbers
 
@@ -44,7 +44,7 @@ line_bound cs notes m p = said_of_line notes (source_at cs m p)
 
 -- what is said of the place itself
 abbrev pub place_bound : List ClassFile → List Note → BoundOf
-place_bound cs notes m p = bound_in (AtPlace (method_name cs m) p) notes
+place_bound cs notes m p = bound_in (AtPlace (written_name cs m) p) notes
 
 -- the walk keeps what is found, and what is said of lines and of places
 pub record KeepsAll (cs : List ClassFile) (notes : List Note) (found : List FoundLoop) (m : ℕ) (ns : List ℕ) : Type 0 where
@@ -58,8 +58,8 @@ KeptNotesAreKept =
     (cs : List ClassFile) (notes : List Note) (found : List FoundLoop) (m : ℕ) (ns : List ℕ) → KeepsAll cs notes found m ns
     → WalkKeeps (resolved cs) (written_of cs notes found) m ns
 
--- and a walk of a method that can be named which keeps what is written keeps these
+-- and a walk that keeps what is written keeps these
 abbrev pub WrittenKeepsNotes : Type 0
 WrittenKeepsNotes =
-    (cs : List ClassFile) (notes : List Note) (found : List FoundLoop) (m : ℕ) (ns : List ℕ) → IsTrue (is_nameable (method_name cs m))
-    → WalkKeeps (resolved cs) (written_of cs notes found) m ns → KeepsAll cs notes found m ns
+    (cs : List ClassFile) (notes : List Note) (found : List FoundLoop) (m : ℕ) (ns : List ℕ) → WalkKeeps (resolved cs) (written_of cs notes found) m ns
+    → KeepsAll cs notes found m ns

@@ -3,7 +3,8 @@ use Rattle.std.specs.Prelude.{◌≡◌, ◌↔◌, ◌⊎◌, ℕ, ℤ, List, C
 use Rattle.lists.specs.Lists.{onto}
 use Rattle.class_pool.specs.declared.class.ClassFile.{ClassFile}
 use Rattle.bytecode_model.specs.Program.{body_of}
-use Rattle.program_tables.specs.Resolved.{resolved, method_name}
+use Rattle.program_tables.specs.Resolved.{resolved}
+use Rattle.method_names.specs.Written.{written_name}
 use Rattle.program_tables.specs.Resolving.{IsResolved}
 use Rattle.method_flow.specs.Keeping.{BoundOf, WalkKeeps}
 use Rattle.method_flow.specs.Regions.{IsWithin}
@@ -25,14 +26,14 @@ use Rattle.source_headers.specs.Laws.{written_of, HasLoopNumbers, line_bound, pl
 -- the bound is the number that is written for a loop of the method, by the method's name and the place of the header
 pub record IsWritten (cs : List ClassFile) (notes : List Note) (found : List FoundLoop) (m : ℕ) (b : LoopBound) : Type 0 where
   pub header : IsHeaderAt (resolved cs) m b.pc
-  pub name : b.name ≡ method_name cs m
+  pub name : b.name ≡ written_name cs m
   pub number : written_of cs notes found m b.pc ≡ Some b.bound
 
 -- The text is read whole, and each header has the bound that is written for it, or none where no number is; there are no other bounds.
 pub record GivesWritten (cs : List ClassFile) (notes : List Note) (found : List FoundLoop) (text : List ℕ) : Type 0 where
   pub bounds : List LoopBound
   pub read : IsRead text bounds
-  pub headers : (m p : ℕ) → IsHeaderAt (resolved cs) m p → bound_in (method_name cs m) p bounds ≡ written_of cs notes found m p
+  pub headers : (m p : ℕ) → IsHeaderAt (resolved cs) m p → bound_in (written_name cs m) p bounds ≡ written_of cs notes found m p
   pub others : (b : LoopBound) → Contains bounds b → (m : ℕ) × IsWritten cs notes found m b
 
 -- the text of the headers of resolved classes gives just the numbers that are written
@@ -43,7 +44,7 @@ HeaderFilesAreRead = (cs : List ClassFile) (lines text : List ℕ) → IsResolve
 
 -- the bounds of the loops of methods with code, by the methods' names
 abbrev pub bounds_by : List ClassFile → List LoopBound → BoundOf
-bounds_by cs bounds m p = onto (body_of (resolved cs) m) (λ b. bound_in (method_name cs m) p bounds)
+bounds_by cs bounds m p = onto (body_of (resolved cs) m) (λ b. bound_in (written_name cs m) p bounds)
 
 -- each header has the bound that is written for it, or none where no number is, and nothing else has one
 pub record BoundsWritten (cs : List ClassFile) (notes : List Note) (found : List FoundLoop) (bound_of : BoundOf) : Type 0 where

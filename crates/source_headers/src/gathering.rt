@@ -2,29 +2,31 @@
 ghost use Rattle.std.specs.Prelude.{◌≡◌, ℕ, List, length, Contains, Some, OnOk, IfOk, slice_get};
 ghost use Rattle.std.specs.List.Sorted.{IsStrictlyIncreasing};
 ghost use Rattle.method_flow.specs.Flow.{Coded, IsFlowOf};
-ghost use Rattle.program_tables.specs.Resolved.{resolved, method_name};
+ghost use Rattle.method_names.specs.Written.{written_name};
+ghost use Rattle.program_tables.specs.Resolved.{resolved};
 ghost use Rattle.loop_finder.specs.Headers.{AreMethodHeaders};
 ghost use Rattle.source_headers.specs.Found.{AreRising};
-ghost use Rattle.source_headers.specs.Gathered.{AddsLines, AddsMethod, AreFiles, AreGathered};
+ghost use Rattle.source_headers.specs.Gathered.{AddsLines, AddsMethod, AddsPlaces, AreFiles, AreGathered};
 ghost use Rattle.source_headers.specs.Known.{IsWith};
 ghost use Rattle.method_sources.specs.Sources.{file_of};
-ghost use Rattle.source_headers.specs.Told.{headed_places};
+ghost use Rattle.source_headers.specs.Told.{headed_lines, headed_places};
 
 use crate::found::from_place;
 use crate::known::Known;
-use crate::methods::{Method, MethodLoops, headed_places, loops_of, put_method};
+use crate::methods::{Method, MethodLoops, loops_of, put_method};
 use base::NoMemory;
+use bound_causes::Shape;
 use class_pool::ClassFile;
 use loop_finder::ProgramLoops;
 use loop_rules::FoundLoop;
 use method_flow::FlowProgram;
-use method_sources::{MethodSource, file_of, lines_at};
+use method_sources::{all_lines, file_of, lines_at};
 use resolved_program::Program;
 use source_bounds::SourceBounds;
 use std::alloc::Global;
 
-/// The text of methods, the methods with the places where they head loops, and the files of the program with the lines where loops
-/// are headed.
+/// The text of methods, the methods whose loops have one entry each with the places where they head loops, and the files of the
+/// program with the lines where loops are headed, and with those of methods whose loops have several entries.
 #[derive(Drop)]
 pub struct Gathered {
     pub text: Vec<u8>,
@@ -32,7 +34,7 @@ pub struct Gathered {
     pub files: Known,
 }
 
-/// Adds the file of a class, where a line can name it.
+/// Adds the file of a class, where it is told.
 fn add_file(alloc: Global, files: &mut Known, class: &ClassFile) -> Result<(), NoMemory>
     ensures names { OnOk result (IsWith files.old.names files.new.names (λ file. file_of class.now ≡ Some file)) }
     ensures sites { OnOk result (IsWith files.old.sites files.new.sites (λ _. ⊥)) }
@@ -55,21 +57,41 @@ fn files_of(alloc: Global, program: &Program) -> Result<Known, NoMemory>
     Ok(files)
 }
 
-/// Adds the lines of these places of a method.
-fn add_lines(
-    alloc: Global,
-    files: &mut Known,
-    source: &Option<MethodSource>,
-    places: &[u32],
-) -> Result<(), NoMemory>
-    ensures { OnOk result (AddsLines files.old files.new source.now places.now) }
+/// The lines at which a method of this shape heads loops, or all where these have several entries.
+fn headed_lines(alloc: Global, lines: &[Option<u16>], shape: &Shape) -> Result<Vec<u32>, NoMemory>
+    ensures { IfOk result (λ found. found.items ≡ headed_lines lines.now shape.now) }
 {
-    match source {
+    match shape {
+        Shape::Irreducible(_) => all_lines(alloc, lines),
+        Shape::Reducible(places) => lines_at(alloc, lines, places),
+    }
+}
+
+/// Adds the lines at which a method heads loops, or all where these have several entries.
+fn add_lines(alloc: Global, files: &mut Known, loops: &MethodLoops) -> Result<(), NoMemory>
+    ensures { OnOk result (AddsLines files.old files.new loops.now.source loops.now.shape) }
+{
+    match &loops.source {
         Some(source) => {
-            let lines = lines_at(alloc, &source.lines, places)?;
+            let lines = headed_lines(alloc, &source.lines, &loops.shape)?;
             files.add(alloc, &source.file, &lines)
         }
         None => Ok(()),
+    }
+}
+
+/// Adds a method with the places where it heads loops, where these have one entry each.
+fn add_places(
+    alloc: Global,
+    methods: &mut Known,
+    name: &[u8],
+    shape: &Shape,
+) -> Result<(), NoMemory>
+    ensures { OnOk result (AddsPlaces methods.old methods.new name.now shape.now) }
+{
+    match shape {
+        Shape::Irreducible(_) => Ok(()),
+        Shape::Reducible(places) => methods.add(alloc, name, places),
     }
 }
 
@@ -87,10 +109,9 @@ impl Gathered {
         requires found { AreRising found.now }
         ensures { OnOk result (AddsMethod self.old self.new notes.now found.now method.entry.number method.entry.name.now loops.now) }
     {
-        let places = headed_places(&loops.shape);
         put_method(&mut self.text, notes, method, loops, found)?;
-        self.methods.add(alloc, method.name, places)?;
-        add_lines(alloc, &mut self.files, &loops.source, places)
+        add_places(alloc, &mut self.methods, method.name, &loops.shape)?;
+        add_lines(alloc, &mut self.files, loops)
     }
 }
 
@@ -104,7 +125,7 @@ fn add_methods(
     gathered: &mut Gathered,
 ) -> Result<(), NoMemory>
     requires flow { IsFlowOf (resolved program.now) flow.now }
-    requires names { (m : ℕ) (k : Coded) → slice_get flow.now.methods m ≡ Some k → k.name ≡ method_name program.now m }
+    requires names { (m : ℕ) (k : Coded) → slice_get flow.now.methods m ≡ Some k → k.name ≡ written_name program.now m }
     requires found { AreRising loops.now.counted.items }
     requires headers { AreMethodHeaders (resolved program.now) (length flow.now.methods) loops.now.headers.items }
     requires none { AreGathered program.now notes.now loops.now.counted.items 0 gathered.old }
@@ -132,7 +153,7 @@ pub(crate) fn gather(
     loops: &ProgramLoops,
 ) -> Result<Gathered, NoMemory>
     requires flow { IsFlowOf (resolved program.now) flow.now }
-    requires names { (m : ℕ) (k : Coded) → slice_get flow.now.methods m ≡ Some k → k.name ≡ method_name program.now m }
+    requires names { (m : ℕ) (k : Coded) → slice_get flow.now.methods m ≡ Some k → k.name ≡ written_name program.now m }
     requires found { AreRising loops.now.counted.items }
     requires headers { AreMethodHeaders (resolved program.now) (length flow.now.methods) loops.now.headers.items }
     ensures { IfOk result (AreGathered program.now notes.now loops.now.counted.items (length flow.now.methods)) }

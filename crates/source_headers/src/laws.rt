@@ -7,7 +7,7 @@ use bound_rules::laws::graphs_are_one;
 use class_rules::laws::methods_have_code;
 use compact_walks::laws::{ends_are_one, graphs_are_moved, parts_are_sound};
 use loop_bounds::laws::gives_one;
-use method_names::names::names_are_one;
+use method_names::laws::{written_are_words, written_names_are_one};
 use program_tables::laws::methods_stand_by_number;
 
 /// Each loop that may run while a method does is bounded by what is written, exactly where no remark stands in place of numbers.
@@ -41,7 +41,8 @@ pub fn header_files_are_read()
     ends_are_one();
     methods_have_code();
     methods_stand_by_number();
-    names_are_one();
+    written_are_words();
+    written_names_are_one();
 }
 
 /// By what the text is read as, each header of a loop has just the number that is written for it.
@@ -50,7 +51,7 @@ pub fn files_bound_headers()
     ensures sources { FileBoundsAreFoundOrSaid }
 {
     header_files_are_read();
-    names_are_one();
+    written_names_are_one();
     gives_one();
 }
 
@@ -63,7 +64,7 @@ pub fn roots_have_lines()
     parts_are_sound();
     ends_are_one();
     header_files_are_read();
-    names_are_one();
+    written_names_are_one();
     gives_one();
 }
 
@@ -72,6 +73,6 @@ pub fn kept_notes_keep_the_file()
     ensures { KeptNotesKeepTheFile }
 {
     header_files_are_read();
-    names_are_one();
+    written_names_are_one();
     gives_one();
 }

@@ -1,21 +1,19 @@
 //! The loops of a method, and their lines.
-ghost use Rattle.std.specs.Prelude.{◌≡◌, ℕ, ◌<◌, ◌++◌, length, Contains, Some, IsSome, IfOk, OnOk};
+ghost use Rattle.std.specs.Prelude.{◌≡◌, ℕ, ◌++◌, List, Some, IsSome, IfOk, OnOk};
 ghost use Rattle.std.specs.List.Sorted.{IsStrictlyIncreasing};
 ghost use Rattle.bytecode_model.specs.Program.{body_of};
 ghost use Rattle.flow_graph.specs.declared.numbering.Compact.{Compact};
-ghost use Rattle.program_tables.specs.Numbers.{methods_by_number};
 ghost use Rattle.program_tables.specs.Resolved.{resolved};
 ghost use Rattle.bound_causes.specs.Shapes.{IsCompactShape, IsShape};
 ghost use Rattle.loop_finder.specs.Headers.{AreHeadersIn, AreHeadersOf};
 ghost use Rattle.source_headers.specs.Found.{AreRising};
-ghost use Rattle.source_headers.specs.Headers.{unnamed_lines};
 ghost use Rattle.method_sources.specs.Sources.{source_at, IsFileOf};
 ghost use Rattle.method_sources.specs.Told.{source_by};
-ghost use Rattle.source_headers.specs.Told.{headed_places, headers_by, named_by, lines_by, IsToldOf};
+ghost use Rattle.report_rows.specs.Rows.{IsCodePlace};
+ghost use Rattle.source_headers.specs.Told.{headed_places, has_no_loops, headers_by, lines_by, IsToldOf, IsToldPlace};
 
 use crate::found::{from_place, number_at};
-use crate::texts::{put_header, put_irreducible, put_unnamed};
-use answer_lines::is_nameable;
+use crate::texts::{put_header, put_irreducible};
 use base::NoMemory;
 use bound_causes::Shape;
 use bound_causes::laws::{compact_keeps_loops, method_graphs_are_reached};
@@ -29,14 +27,14 @@ use resolved_program::Program;
 use source_bounds::SourceBounds;
 use std::alloc::Global;
 
-/// The shape of a method's loops, and the lines of its source where it heads some.
+/// The shape of a method's loops, and the lines of its source where it has some.
 #[derive(Drop)]
 pub struct MethodLoops {
     pub shape: Shape,
     pub source: Option<MethodSource>,
 }
 
-/// A method, and its name.
+/// A method, and its name as it is written.
 #[derive(Clone, Copy)]
 pub struct Method<'a> {
     pub number: u32,
@@ -53,20 +51,32 @@ pub(crate) fn headed_places(shape: &Shape) -> &[u32]
     }
 }
 
-/// The source of a method of this shape, where it heads loops.
+/// Whether a method of this shape has no loops.
+fn has_no_loops(shape: &Shape) -> bool
+    ensures { result ≡ has_no_loops shape.now }
+{
+    match shape {
+        Shape::Irreducible(_) => false,
+        Shape::Reducible(places) => places.is_empty(),
+    }
+}
+
+/// The source of a method of this shape, where it has loops.
 fn source_where(
     alloc: Global,
     program: &Program,
     number: u32,
     shape: &Shape,
 ) -> Result<Option<MethodSource>, NoMemory>
-    requires number { number < length (methods_by_number program.now) }
+    requires coded { IsSome (body_of (resolved program.now) number) }
     requires shape { IsShape (resolved program.now) number shape.now }
     ensures file { IfOk result (λ source. (s : MethodSource) → source ≡ Some s → IsFileOf program.now s.file.items) }
-    ensures source { IfOk result (λ source. (p : ℕ) → Contains (headed_places shape.now) p → source_by source p ≡ source_at program.now number p) }
+    ensures source { IfOk result (λ source. (p : ℕ) → IsToldPlace (resolved program.now) number shape.now p
+        → source_by source p ≡ source_at program.now number p) }
+    ensures within { IfOk result (λ source. (p : ℕ) (s : List ℕ × ℕ) → source_by source p ≡ Some s → IsCodePlace (resolved program.now) number p) }
 {
     methods_stand_by_number();
-    if headed_places(shape).is_empty() {
+    if has_no_loops(shape) {
         return Ok(None);
     }
     source_of(alloc, program, number)
@@ -138,40 +148,6 @@ fn put_headers(
     Ok(())
 }
 
-/// Appends the lines of a method whose loops can be named.
-fn put_named(
-    text: &mut Vec<u8>,
-    notes: &SourceBounds,
-    method: Method<'_>,
-    loops: &MethodLoops,
-    found: &[FoundLoop],
-) -> Result<(), NoMemory>
-    requires places { IsStrictlyIncreasing (headed_places loops.now.shape) }
-    requires found { AreRising found.now }
-    ensures { OnOk result (text.new.items ≡ text.old.items
-        ++ named_by notes.now found.now method.entry.number method.entry.name.now loops.now.source loops.now.shape) }
-{
-    match &loops.shape {
-        Shape::Irreducible(nodes) => put_irreducible(text, method.name, nodes),
-        Shape::Reducible(places) => put_headers(text, notes, method, places, &loops.source, found),
-    }
-}
-
-/// Appends the lines of a method whose loops can't be named.
-fn put_unnameable(text: &mut Vec<u8>, method: u32, shape: &Shape) -> Result<(), NoMemory>
-    ensures { OnOk result (text.new.items ≡ text.old.items ++ unnamed_lines method shape.now) }
-{
-    match shape {
-        Shape::Irreducible(_) => put_unnamed(text, method),
-        Shape::Reducible(places) => {
-            if places.is_empty() {
-                return Ok(());
-            }
-            put_unnamed(text, method)
-        }
-    }
-}
-
 /// Appends the lines of a method.
 pub(crate) fn put_method(
     text: &mut Vec<u8>,
@@ -183,11 +159,10 @@ pub(crate) fn put_method(
     requires places { IsStrictlyIncreasing (headed_places loops.now.shape) }
     requires found { AreRising found.now }
     ensures { OnOk result (text.new.items ≡ text.old.items
-        ++ lines_by notes.now found.now method.entry.number method.entry.name.now loops.now) }
+        ++ lines_by notes.now found.now method.entry.number method.entry.name.now loops.now.source loops.now.shape) }
 {
-    if is_nameable(method.name) {
-        put_named(text, notes, method, loops, found)
-    } else {
-        put_unnameable(text, method.number, &loops.shape)
+    match &loops.shape {
+        Shape::Irreducible(nodes) => put_irreducible(text, method.name, nodes),
+        Shape::Reducible(places) => put_headers(text, notes, method, places, &loops.source, found),
     }
 }

@@ -1,7 +1,7 @@
 //! The lines of headers.
 ghost use Rattle.std.specs.Prelude.{◌≡◌, ◌++◌, OnOk, flat_map, option_map};
 ghost use Rattle.source_bounds.specs.Notes.{AtPlace, bound_in};
-ghost use Rattle.source_headers.specs.Headers.{header_lines, irreducible_line, number_line, source_line, spaced, unnamed_line, wanting_line};
+ghost use Rattle.source_headers.specs.Headers.{header_lines, irreducible_line, number_line, source_line, spaced, wanting_line};
 ghost use Rattle.source_headers.specs.Headers.{lesser, said_of_line};
 
 use answer_lines::put_loop_line;
@@ -122,13 +122,4 @@ fn put_spaced(text: &mut Vec<u8>, node: u32) -> Result<(), NoMemory>
         text.push(b'r')?;
     }
     Ok(())
-}
-
-/// Appends the remark on a method of which no loop can be named.
-pub(crate) fn put_unnamed(text: &mut Vec<u8>, method: u32) -> Result<(), NoMemory>
-    ensures { OnOk result (text.new.items ≡ text.old.items ++ unnamed_line method) }
-{
-    text.extend_from_slice(b"# method=")?;
-    put_u64(text, method as u64)?;
-    Ok(text.extend_from_slice(b" unnamed\n")?)
 }

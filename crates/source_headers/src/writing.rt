@@ -2,7 +2,8 @@
 ghost use Rattle.std.specs.Prelude.{◌≡◌, ◌≤◌, ℕ, List, length, Some, IfOk, IfErr, slice_get};
 ghost use Rattle.base.specs.Sizes.{longest_file};
 ghost use Rattle.method_flow.specs.Flow.{Coded, IsFlowOf};
-ghost use Rattle.program_tables.specs.Resolved.{resolved, method_name};
+ghost use Rattle.method_names.specs.Written.{written_name};
+ghost use Rattle.program_tables.specs.Resolved.{resolved};
 ghost use Rattle.source_bounds.specs.Grammar.{AreNotesRead};
 ghost use Rattle.loop_finder.specs.Headers.{AreMethodHeaders};
 ghost use Rattle.source_headers.specs.Files.{IsHeaderFile, IsHeaderFault};
@@ -39,7 +40,7 @@ fn file_by(
     loops: &ProgramLoops,
 ) -> Result<Vec<u8>, HeaderFault>
     requires flow { IsFlowOf (resolved program.now) flow.now }
-    requires names { (m : ℕ) (k : Coded) → slice_get flow.now.methods m ≡ Some k → k.name ≡ method_name program.now m }
+    requires names { (m : ℕ) (k : Coded) → slice_get flow.now.methods m ≡ Some k → k.name ≡ written_name program.now m }
     requires found { AreRising loops.now.counted.items }
     requires headers { AreMethodHeaders (resolved program.now) (length flow.now.methods) loops.now.headers.items }
     ensures file { IfOk result (λ text. IsFileBy program.now notes.now loops.now.counted.items text.items) }
@@ -57,7 +58,7 @@ fn noted_file(
     notes: &SourceBounds,
 ) -> Result<Vec<u8>, HeaderFault>
     requires flow { IsFlowOf (resolved program.now) flow.now }
-    requires names { (m : ℕ) (k : Coded) → slice_get flow.now.methods m ≡ Some k → k.name ≡ method_name program.now m }
+    requires names { (m : ℕ) (k : Coded) → slice_get flow.now.methods m ≡ Some k → k.name ≡ written_name program.now m }
     ensures file { IfOk result (λ text. (lines : List ℕ) → AreNotesRead lines notes.now → IsHeaderFile program.now lines text.items) }
     ensures fault { IfErr result (λ fault. (lines : List ℕ) → AreNotesRead lines notes.now → IsHeaderFault program.now lines fault) }
 {
@@ -79,7 +80,7 @@ pub fn header_file(
     lines: &[u8],
 ) -> Result<Vec<u8>, HeaderFault>
     requires flow { IsFlowOf (resolved program.now) flow.now }
-    requires names { (m : ℕ) (k : Coded) → slice_get flow.now.methods m ≡ Some k → k.name ≡ method_name program.now m }
+    requires names { (m : ℕ) (k : Coded) → slice_get flow.now.methods m ≡ Some k → k.name ≡ written_name program.now m }
     requires short { length lines.now ≤ longest_file }
     ensures file { IfOk result (λ text. IsHeaderFile program.now lines.now text.items) }
     ensures fault { IfErr result (IsHeaderFault program.now lines.now) }

@@ -90,7 +90,7 @@ def by_hand(table):
     table.all('no bounds', usual, [], [*refused, 'A.turns()V bound=none missing bound A.turns()V 2', 'A.beside()V bound=none missing bound A.turns()V 2'])
     table.all('callees have numbers', usual, ['A.turns()V 2 loop<=10', 'A.endless()V 0 loop<=1'], [*refused, 'A.endless()V bound=never'])
     table.program('several', 'A', [several()])
-    table.all('no bounds', usual, [], ['A.both()V bound=none irreducible A.m(I)V', 'A.later()V bound=none irreducible A.n(I)V', 'A.spaced()V bound=none irreducible A.o o(I)V',
+    table.all('no bounds', usual, [], ['A.both()V bound=none irreducible A.m(I)V', 'A.later()V bound=none irreducible A.n(I)V', 'A.spaced()V bound=none irreducible A.o\\x20o(I)V',
                                        'A.ring()V bound=none recursion'])
     table.program('large', 'A', [large()])
     lines = ['A.n(I)V 0 loop<=%d' % MOST, 'A.n(I)V 4 loop<=%d' % MOST]

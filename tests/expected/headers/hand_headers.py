@@ -1,4 +1,4 @@
-"""Classes by hand for `jop headers`: tables of lines in any order, several or none of them, names of files and methods that no line can name, loops with several entries."""
+"""Classes by hand for `jop headers`: tables of lines in any order, several or none of them, names of files, classes and methods that hold a space, a line feed, a # or a backslash, loops with several entries."""
 import os
 import struct
 import sys
@@ -15,6 +15,7 @@ COUNTS = 'iconst_0; istore_0; h: iload_0; bipush 10; if_icmpge e; iinc 0 1; goto
 TWO = LOOP.replace('return', 'iconst_0; istore_0; k: iload_0; bipush 10; if_icmpge f; iinc 0 1; goto k; f: return')
 # headed at 0
 AT_START = 'h: iload_0; ifle e; iinc 0 -1; goto h; e: return'
+# 0 iload_0, 1 ifeq, 4 iload_1, 5 ifeq, 8 iinc, 11 goto 4, 14 return: 4 and 8 are entered from 1
 SEVERAL = 'iload_0; ifeq m; h: iload_1; ifeq e; m: iinc 1 -1; goto h; e: return'
 INTS = '(II)V'
 
@@ -25,9 +26,6 @@ class Sourced(Hand):
     def __init__(self, name, source=None):
         super().__init__(name)
         self.source, self.tables = source, []
-
-    def utf8(self, text):
-        return self.entry(struct.pack('>BH', 1, len(text.encode())) + text.encode())
 
     def lines(self, name, text, *tables):
         """adds a method with these tables, each a list of places and lines, or bytes"""
@@ -81,6 +79,8 @@ def tables():
     k.lines('g g', LOOP, [(0, 140)])
     k.lines('#g', LOOP, [(0, 141)])
     k.lines('sameLine', LOOP, [(0, 110)])
+    k.lines('f\\x', LOOP, [(0, 142)])
+    k.lines('severalToo', SEVERAL, [(1, 122), (8, 11), (14, 123)])
     k.main()
     return k
 
@@ -100,8 +100,11 @@ def others():
     marked = Sourced('#Marked', '#Marked.java').lines('f', LOOP, [(0, 9)]).lines('m', SEVERAL).lines('n', 'return')
     between = Sourced('a b/Between', 'Between.java').lines('f', LOOP, [(0, 10)])
     beside = Sourced('Beside', 'T.java').lines('f', LOOP, [(0, 11)]).lines('h', LOOP, [(0, 150)])
+    fed = Sourced('Fe\nd', 'Fe\nd.java').lines('f\n', LOOP, [(0, 13)])
+    escaped = Sourced('Es\\x20caped', 'Es\\x20caped.java').lines('f', LOOP, [(0, 14)])
+    within = Sourced('a/#Within', '#Within.java').lines('f', LOOP, [(0, 15)])
     accented = Sourced('Accented', 'Acc\u00e9nt.java').lines('f', LOOP, [(0, 12)])
-    return [spaced, colon, plain, long, nothing, of_class, empty, packed, marked, between, beside, accented]
+    return [spaced, colon, plain, long, nothing, of_class, empty, packed, marked, between, beside, accented, fed, escaped, within]
 
 
 def program():

@@ -11,10 +11,13 @@ HAND = [
         # none at the place or before it, no table, bytes that are no table
         '# T.allBehind(II)V 2 loop<=', '# T.noTable(II)V 2 loop<=', '# T.java:91', '# T.java:92', '# T.cutOff(II)V 2 loop<=',
         '# T.java:80', '# T.atItsStart(II)V 0 loop<=', '# T.java:0', '# T.java:65535',
-        # what counts, what has several entries, names that can't stand in a line
-        '# T.java:100', COUNTS + ' loop<=10', '# T.several(II)V irreducible 4 8', '# method=61 unnamed', '# T.#g(II)V 2 loop<=', '# method=74 unnamed',
-        # odd names of files
-        '# Spaced.f(II)V 2 loop<=', '# Colon:7.java:2', '# Plain.f(II)V 2 loop<=', '# Long.f(II)V 2 loop<=', '# a/b/Packed.java:8', '# Acc\u00e9nt.java:12']),
+        # what counts, what has several entries, odd names of methods
+        '# T.java:100', COUNTS + ' loop<=10', '# T.several(II)V irreducible 4 8', '# T.java:140', '# T.g\\x20g(II)V 2 loop<=', '# T.#g(II)V 2 loop<=', '# T.f\\x5Cx(II)V 2 loop<=',
+        '# \\x23Marked.m(II)V irreducible 4 8',
+        # odd names of files and classes
+        '# Spa\\x20ced.java:1', '# Spaced.f(II)V 2 loop<=', '# Colon:7.java:2', '# Plain.f(II)V 2 loop<=', '# Long.f(II)V 2 loop<=', '# :7', '# Empty.f(II)V 2 loop<=', '# a/b/Packed.java:8',
+        '# \\x23Marked.java:9', '# \\x23Marked.f(II)V 2 loop<=', '# a\\x20b/Between.java:10', '# a\\x20b/Between.f(II)V 2 loop<=', '# Acc\u00e9nt.java:12',
+        '# Fe\\x0Ad.java:13', '# Fe\\x0Ad.f\\x0A(II)V 2 loop<=', '# Es\\x5Cx20caped.java:14', '# Es\\x5Cx20caped.f(II)V 2 loop<=', '# a/#Within.java:15', '# a/#Within.f(II)V 2 loop<=']),
     ('an empty text', [], ['# T.java:11', '# T.inOrder(II)V 2 loop<=']),
     ('remarks and empty lines', ['', '#', '# T.java:11 loop<=1', '#T.java:11 loop<=1', ''], ['# T.inOrder(II)V 2 loop<=']),
     # numbers
@@ -40,7 +43,29 @@ HAND = [
     ('a file of a package', ['a/b/Packed.java:8 loop<=6'], ['a/b/Packed.f(II)V 2 loop<=6']),
     ('the last colon', ['Colon:7.java:2 loop<=6'], ['Colon.f(II)V 2 loop<=6']),
     ('bytes beyond ASCII', ['Acc\u00e9nt.java:12 loop<=6'], ['Accented.f(II)V 2 loop<=6']),
-    ('a loop of a method without a name', ['T.java:140 loop<=6'], ['# method=61 unnamed']),
+    # names as they are written
+    ('a loop of a method whose name has a space, by its line', ['T.java:140 loop<=6'], ['T.g\\x20g(II)V 2 loop<=6']),
+    ('it by its place', ['T.g\\x20g(II)V 2 loop<=6'], ['T.g\\x20g(II)V 2 loop<=6']),
+    ('a class whose name begins with #, by a line', ['\\x23Marked.java:9 loop<=6'], ['\\x23Marked.f(II)V 2 loop<=6']),
+    ('it by a place', ['\\x23Marked.f(II)V 2 loop<=6'], ['\\x23Marked.f(II)V 2 loop<=6']),
+    ('a remark that would be it', ['#Marked.java:9 loop<=6', '#Marked.f(II)V 2 loop<=6'], ['# \\x23Marked.f(II)V 2 loop<=']),
+    ('a # behind others', ['a/#Within.java:15 loop<=6'], ['a/#Within.f(II)V 2 loop<=6']),
+    ('a file whose name has a space', ['Spa\\x20ced.java:1 loop<=6'], ['Spaced.f(II)V 2 loop<=6']),
+    ('a folder whose name has a space', ['a\\x20b/Between.java:10 loop<=6'], ['a\\x20b/Between.f(II)V 2 loop<=6']),
+    ('a file, a class and a method with a line feed', ['Fe\\x0Ad.java:13 loop<=6', 'Fe\\x0Ad.f\\x0A(II)V 2 loop<=5'], ['Fe\\x0Ad.f\\x0A(II)V 2 loop<=5']),
+    ('a backslash', ['Es\\x5Cx20caped.java:14 loop<=6'], ['Es\\x5Cx20caped.f(II)V 2 loop<=6']),
+    ('a line without a loop, of a file whose name has a line feed', ['Fe\\x0Ad.java:12 loop<=6'], 'no loop Fe\\x0Ad.java:12'),
+    ('a place without a loop, of a class whose name begins with #', ['\\x23Marked.n(II)V 0 loop<=6'], 'no loop \\x23Marked.n(II)V 0'),
+    ('another use of the backslash', ['Es\\x20caped.java:13 loop<=6', 'Fe\\x0ad.java:12 loop<=6', 'T\\x2Ejava:10 loop<=6', 'T.\\x23g(II)V 3 loop<=6', 'T.f\\x(II)V 3 loop<=6', '\\ 0 loop<=6'],
+     ['# T.inOrder(II)V 2 loop<=']),
+    # what has several entries
+    ('a line of a loop of several entries', ['T.java:121 loop<=6'], ['# T.several(II)V irreducible 4 8']),
+    ('another line of such a method', ['T.java:120 loop<=6', 'T.java:122 loop<=6', 'T.java:123 loop<=6'], ['# T.severalToo(II)V irreducible 4 8']),
+    ('a line of a loop of one entry and of such a method', ['T.java:11 loop<=6'], ['T.inOrder(II)V 2 loop<=6', '# T.severalToo(II)V irreducible 4 8']),
+    ('a line behind those of such a method', ['T.java:124 loop<=6'], 'no loop T.java:124'),
+    ('places of such a method', ['T.several(II)V 4 loop<=6', 'T.several(II)V 8 loop<=6', 'T.several(II)V 5 loop<=6', 'T.several(II)V 65536 loop<=6'], ['# T.several(II)V irreducible 4 8']),
+    ('a place of such a method of a class whose name begins with #', ['\\x23Marked.m(II)V 4 loop<=6'], ['# \\x23Marked.m(II)V irreducible 4 8']),
+    ('a stray one behind those', ['T.several(II)V 5 loop<=6', 'T.java:121 loop<=6', 'T.none(II)V 0 loop<=6'], 'no loop T.none(II)V 0'),
     # what isn't used
     ('a file that no class names', ['Other.java:1 loop<=6', 'Packed.java:8 loop<=6', 'b/Packed.java:8 loop<=6', 't.java:11 loop<=6', 'T.jav:11 loop<=6'], ['# T.inOrder(II)V 2 loop<=']),
     ('a file whose name has a space, as far as it goes', ['ced.java:1 loop<=6'], ['# Spaced.f(II)V 2 loop<=']),
@@ -51,14 +76,12 @@ HAND = [
     ('a line without a loop', ['T.java:10 loop<=6'], 'no loop T.java:10'),
     ('a line of a table that is out of the way', ['T.java:40 loop<=6'], 'no loop T.java:40'),
     ('the line of a table that counts no more', ['T.java:41 loop<=6'], 'no loop T.java:41'),
-    ('a line of a loop of several entries', ['T.java:121 loop<=6'], 'no loop T.java:121'),
     ('a line past all', ['T.java:4294967295 loop<=6'], 'no loop T.java:4294967295'),
     ('a line of a file of a class that has no such loop', ['a/b/Packed.java:9 loop<=6'], 'no loop a/b/Packed.java:9'),
     ('a line of an odd file', ['Colon:7.java:7 loop<=6'], 'no loop Colon:7.java:7'),
     ('a place without a loop', ['T.inOrder(II)V 3 loop<=6'], 'no loop T.inOrder(II)V 3'),
     ('the place 0', ['T.inOrder(II)V 0 loop<=6'], 'no loop T.inOrder(II)V 0'),
     ('a place past the code', ['T.inOrder(II)V 4294967295 loop<=6'], 'no loop T.inOrder(II)V 4294967295'),
-    ('a place of a method of several entries', ['T.several(II)V 4 loop<=6'], 'no loop T.several(II)V 4'),
     ('a method without loops', ['T.none(II)V 0 loop<=6'], 'no loop T.none(II)V 0'),
     ('a method of a core class', ['java/lang/String.length()I 0 loop<=6'], 'no loop java/lang/String.length()I 0'),
     ('in front of others', ['T.java:10 loop<=6', 'T.java:21 loop<=7', 'T.inOrder(II)V 3 loop<=6'], 'no loop T.java:10'),

@@ -11,7 +11,7 @@ sys.path[:0] = [HERE, os.path.join(HERE, '../loops'), os.path.join(HERE, '../gra
 import counted  # noqa: E402
 import flow  # noqa: E402
 from rechecker.texts import MOST_BOUND, NUMBER, lines_of  # noqa: E402
-from sources import Sources  # noqa: E402
+from sources import Sources, written  # noqa: E402
 
 OF_LINE = re.compile(b'([^ \n]+):%b loop<=%b' % (NUMBER.encode(), NUMBER.encode()))
 OF_PLACE = re.compile(b'([^ \n]+) %b loop<=%b' % (NUMBER.encode(), NUMBER.encode()))
@@ -43,8 +43,14 @@ class Headers:
         self.sources = Sources(self.program, files)
         boot = len(self.program.classes) - 1
         self.methods = [m for m in range(len(self.program.coded)) if self.program.coded[m][0] != boot]
+        self.names = {m: self.name_of(self.program.coded[m]) for m in self.methods}
         self.graphs = {m: flow.Graph(self.program.body(m)) for m in self.methods}
         self.headers = {m: self.headers_of(m) for m in self.methods}
+
+    def name_of(self, method):
+        """the name of a method by its class and its place there, as texts have it"""
+        found = self.program.image.method(method)
+        return written(self.program.classes[method[0]].name + b'.' + found['name'] + found['descriptor'])
 
     def headers_of(self, m):
         """the places of the headers of a method's loops, rising, or none where its graph isn't reducible"""
@@ -56,11 +62,12 @@ class Headers:
         return self.sources.at(m, place)
 
     def at(self, separator):
-        """what notes with this separator may be said of: names that are known, and where loops are headed"""
+        """what notes with this separator may be said of: names that are known, and where loops are headed; a method of several entries has no place of its own, and all its lines"""
         sites = {(m, place) for m in self.methods for place in self.headers[m] or []}
         if separator == ' ':
-            return {self.program.names[m] for m in self.methods}, {(self.program.names[m], place) for m, place in sites}
-        return self.sources.files(), {self.source(m, place) for m, place in sites}
+            return {self.names[m] for m in self.methods if self.headers[m] is not None}, {(self.names[m], place) for m, place in sites}
+        several = {(m, place) for m in self.methods if self.headers[m] is None for place in range(len(self.program.body(m)['code']))}
+        return self.sources.files(), {self.source(m, place) for m, place in sites | several}
 
     def strays(self, notes):
         """what is bounded at lines of the program's files and at places of its methods, and isn't there, in the order of the notes"""
@@ -73,18 +80,13 @@ class Headers:
     def written(self, m, place, notes, found):
         """the number that is written for a loop, or none"""
         source = self.source(m, place)
-        numbers = [found.get(place), notes.get((' ', self.program.names[m], place)), notes.get((':', *source)) if source else None]
+        numbers = [found.get(place), notes.get((' ', self.names[m], place)), notes.get((':', *source)) if source else None]
         return min((number for number in numbers if number is not None), default=None)
 
     def lines(self, notes):
         for m in self.methods:
-            name, headers = self.program.names[m], self.headers[m]
-            if headers == []:
-                continue
-            if not is_nameable(name):
-                yield '# method=%d unnamed' % m
-            elif headers is None:
-                yield ' '.join(['#', name, 'irreducible', *(str(place) for place, _ in self.graphs[m].reduced())])
+            if self.headers[m] is None:
+                yield ' '.join(['#', self.names[m], 'irreducible', *(str(place) for place, _ in self.graphs[m].reduced())])
             else:
                 yield from self.method_lines(m, notes)
 
@@ -94,7 +96,7 @@ class Headers:
             source, number = self.source(m, place), self.written(m, place, notes, found)
             if source:
                 yield '# %s:%d' % source
-            line = '%s %d loop<=' % (self.program.names[m], place)
+            line = '%s %d loop<=' % (self.names[m], place)
             yield '# ' + line if number is None else line + str(number)
 
     def answer(self, text):
@@ -104,7 +106,3 @@ class Headers:
             return notes
         stray = next(self.strays(notes), None)
         return list(self.lines(notes)) if stray is None else 'no loop ' + stray
-
-
-def is_nameable(name):
-    return not name.startswith('#') and ' ' not in name and '\n' not in name

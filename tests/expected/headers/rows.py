@@ -82,7 +82,7 @@ def of_javac(rows, title, main, reference):
     rows.program(title, main, files, reference)
     rows.headers('no lines')
     known, chance = rows.known, random.Random('headers ' + title)
-    sites = [(known.program.names[m], place, known.source(m, place)) for m in known.methods for place in known.headers[m] or []]
+    sites = [(known.names[m], place, known.source(m, place)) for m in known.methods for place in known.headers[m] or []]
     lines = sorted({'%s:%d' % source for _, _, source in sites if source})
     places = ['%s %d' % (name, place) for name, place, _ in sites]
     if lines:

@@ -1,7 +1,9 @@
 """Which line of which file an instruction was compiled from, read of class files alone (JVM Specification SE 8, 4.7.10 and 4.7.12).
 
-Names are bytes, as they stand in the class file. An attribute that isn't of its form tells nothing.
+Names are bytes, as they stand in the class file; `written` has them as texts do. An attribute that isn't of its form tells nothing.
 """
+import re
+
 # The bytes behind the tag of an entry of the pool, but of a Utf8 entry.
 SIZES = {3: 4, 4: 4, 5: 8, 6: 8, 7: 2, 8: 2, 9: 4, 10: 4, 11: 4, 12: 4, 15: 3, 16: 2, 18: 4}
 TEXT, CLASS, LONG, DOUBLE = 1, 7, 5, 6
@@ -77,6 +79,10 @@ class Source:
         file = self.texts.get(int.from_bytes(data, 'big')) if len(data) == 2 else None
         return None if file is None else name[:name.rfind(b'/') + 1] + file
 
+    def file_written(self):
+        """the file as texts and lines have it, or none"""
+        return None if self.file is None else written(self.file)
+
     def line(self, method, place):
         """the line of a place of a method by its number in the class file, or none"""
         found = None
@@ -87,7 +93,7 @@ class Source:
 
 
 class Sources:
-    """the files and lines of a program's instructions, as far as a line can name them; those of the core classes tell nothing"""
+    """the files and lines of a program's instructions; those of the core classes tell nothing"""
 
     def __init__(self, program, files):
         self.program, self.sources = program, [Source(data) for data in files]
@@ -100,17 +106,21 @@ class Sources:
     def at(self, m, place):
         """the file and the line of an instruction, or none"""
         source = self.of(m)
-        file = named(source.file) if source else None
+        file = source.file_written() if source else None
         line = source.line(self.program.coded[m][1], place) if file is not None else None
         return None if line is None else (file, line)
 
     def files(self):
-        return {named(source.file) for source in self.sources} - {None}
+        return {source.file_written() for source in self.sources} - {None}
 
 
-def named(file):
-    """a file as a line can name it, or none"""
-    return None if file is None or b' ' in file or b'\n' in file else file.decode('utf-8', 'surrogateescape')
+# What a name doesn't show as it stands: a # in front, and bytes below 33, 92 and 127 anywhere.
+HIDDEN = re.compile(rb'\A#|[\0-\40\\\177]')
+
+
+def written(name):
+    """a name of bytes as texts and lines have it"""
+    return HIDDEN.sub(lambda found: b'\\x%02X' % found[0][0], name).decode('utf-8', 'surrogateescape')
 
 
 def starts_of(data):

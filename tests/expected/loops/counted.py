@@ -145,7 +145,7 @@ class Program(flow.Program):
         """the lines of all counted loops, methods rising, headers rising"""
         boot = len(self.classes) - 1
         for m, name in enumerate(self.names):
-            if self.coded[m][0] != boot and not name.startswith('#') and ' ' not in name and '\n' not in name:
+            if self.coded[m][0] != boot:
                 yield from ('%s %d loop<=%d' % (name, place, bound) for place, bound in counted(self, m))
 
 

@@ -188,7 +188,7 @@ class Program(counted.Program):
     def found(self):
         boot = len(self.classes) - 1
         for m, name in enumerate(self.names):
-            if self.coded[m][0] != boot and not name.startswith('#') and ' ' not in name and '\n' not in name:
+            if self.coded[m][0] != boot:
                 yield from ('%s %d loop<=%d' % (name, place, bound) for place, bound in further(self, m))
 
 

@@ -96,7 +96,7 @@ def by_hand(table):
     table.profile('until the stack is full', line='ended ', said=[main, 'A.r()V'])
     table.profile('of fewer words', Machine(stack=256), line='ended ', said=[main, 'A.r()V'])
     table.program('named', 'A', hand.named())
-    table.profile('a space and a #', bounds=['# g 0 loop<=1'], line='ended ', said=[main, 'A.g g()V count=2', 'A.#g()V count=2'])
+    table.profile('a space and a #', bounds=['# g 0 loop<=1'], line='ended ', said=[main, 'A.g\\x20g()V count=2', 'A.#g()V count=2'])
 
 
 def reads_by_hand(table):

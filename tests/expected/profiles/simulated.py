@@ -15,6 +15,7 @@ import flow  # noqa: E402
 import image_file  # noqa: E402
 from costs import Timing  # noqa: E402
 from study import Study, read_bounds  # noqa: E402
+from rechecker.names import written  # noqa: E402
 
 MICROCODE = os.path.join(HERE, '../../../examples/machine/microcode.asm')
 READ, CYCLES = 'impdep1', 10**9
@@ -64,7 +65,7 @@ class Run(NamedTuple):
 def here_of(line):
     front, place, step, frames, _, misses = line.rsplit(' ', 5)
     clock, method = front.split(' ', 1)
-    return Here(int(clock), int(misses.partition('=')[2]), int(frames.partition('=')[2]), method, int(place), step)
+    return Here(int(clock), int(misses.partition('=')[2]), int(frames.partition('=')[2]), written(method.encode()), int(place), step)
 
 
 class Simulated:

@@ -88,9 +88,9 @@ def of_lines(table):
     say('no table', 'R.noTable(II)V', ['R.noTable(II)V 2 loop<=1'], said=[
         'R.noTable(II)V 13 visits=1 cycles=53 share=21%', 'R.noTable(II)V 4 visits=2 cycles=8 share=3%', 'R.noTable(II)V 7 visits=1 cycles=8 share=3%', 'R.noTable(II)V 10 visits=1 cycles=4 share=1%',
         'R.noTable(II)V 2 visits=2 cycles=2 share=0%', 'R.noTable(II)V 3 visits=2 cycles=2 share=0%', 'R.noTable(II)V 0 visits=1 cycles=1 share=0%', 'R.noTable(II)V 1 visits=1 cycles=1 share=0%'])
-    for name, heads in (('Spaced', ['Spaced.f(II)V 1', 'Spaced.f(II)V 0']), ('Plain', ['Plain.f(II)V 1', 'Plain.f(II)V 0'])):
+    for name, heads in (('Plain', ['Plain.f(II)V 1', 'Plain.f(II)V 0']),):
         say('no file of ' + name, name + '.f(II)V', said=['%s visits=1 cycles=%d share=%d%%' % (head, n, n * 100 // 214) for head, n in zip(heads, (53, 1))])
-    for name, head in (('Colon', 'Colon:7.java:2 Colon.f(II)V'), ('a/b/Packed', 'a/b/Packed.java:8 a/b/Packed.f(II)V'), ('Accented', 'Acc\u00e9nt.java:12 Accented.f(II)V')):
+    for name, head in (('Spaced', 'Spa\\x20ced.java:1 Spaced.f(II)V'), ('Colon', 'Colon:7.java:2 Colon.f(II)V'), ('a/b/Packed', 'a/b/Packed.java:8 a/b/Packed.f(II)V'), ('Accented', 'Acc\u00e9nt.java:12 Accented.f(II)V')):
         say('the file of ' + name, name + '.f(II)V', said=['bound=214', head + ' visits=1 cycles=54 share=25%'])
     say('one line of one file in two methods', 'Beside.f(II)V', said=[
         'R.java:50 Beside.f(II)V visits=1 cycles=198 share=47%', 'R.java:50 R.again(II)V visits=1 cycles=53 share=12%'])

@@ -1,7 +1,8 @@
 use Rattle.std.proofs.Common.{◌≡◌, ℕ, List, Some, sym, subst}
 use Rattle.std.specs.Prelude.{IfOk, slice_get}
 use Rattle.class_pool.specs.declared.class.ClassFile.{ClassFile}
-use Rattle.program_tables.specs.Resolved.{resolved, method_name}
+use Rattle.program_tables.specs.Resolved.{resolved}
+use Rattle.method_names.specs.Written.{written_name}
 use Rattle.bytecode_typing.specs.Lawful.{Lawful}
 use Rattle.bytecode_typing.specs.WellPlaced.{WellPlaced}
 use Rattle.method_flow.specs.Flow.{Coded, IsFlowOf}
@@ -18,5 +19,5 @@ returns-clause-flow c = let P : List ClassFile → Type 0 = λ cs. IfOk c.flow_o
 
 pub returns-clause-names : goal.returns-clause-names
 returns-clause-names c =
-    let P : List ClassFile → Type 0 = λ cs. IfOk c.flow_of.result (λ f. (m : ℕ) (k : Coded) → slice_get f.methods m ≡ Some k → k.name ≡ method_name cs m) in
+    let P : List ClassFile → Type 0 = λ cs. IfOk c.flow_of.result (λ f. (m : ℕ) (k : Coded) → slice_get f.methods m ≡ Some k → k.name ≡ written_name cs m) in
     subst P c.program.ensures.program c.flow_of.ensures.names

@@ -1,13 +1,13 @@
 use Rattle.std.proofs.Common.{ℕ, List, [], ◌∷◌, ◌++◌}
 use Rattle.std.specs.Prelude.{codes, decimal}
-use Rattle.slot_table.specs.Slots.{name_text}
+use Rattle.slot_table.specs.Slots.{slot_word}
 use Rattle.analysis_commands.proofs.Shaping.{put_two}
 use Rattle.analysis_commands.proofs.plan.put_plan_line.Goals as goal
 
 pub returns : goal.returns
 returns c =
     let slot = decimal c.args.slot in
-    let name = name_text c.args.parts.now in
+    let name = slot_word c.args.parts.now in
     let bound = decimal c.args.bound in
     let size = decimal c.args.parts.now.length in
     let end : List ℕ = 10 ∷ [] in

@@ -1,7 +1,8 @@
 use Rattle.std.proofs.Common.{◌≡◌, ℕ, List, Some, sym, subst}
 use Rattle.std.specs.Prelude.{slice_get}
 use Rattle.class_pool.specs.declared.class.ClassFile.{ClassFile}
-use Rattle.program_tables.specs.Resolved.{resolved, method_name}
+use Rattle.program_tables.specs.Resolved.{resolved}
+use Rattle.method_names.specs.Written.{written_name}
 use Rattle.method_flow.specs.Flow.{Coded, IsFlowOf}
 use Rattle.commands.specs.Headers.{AnswersHeaders}
 use Rattle.commands.proofs.headers.headers_linked.Goals as goal
@@ -13,7 +14,7 @@ headers_by-requires-clause-flow c =
 
 pub headers_by-requires-clause-names : goal.headers_by-requires-clause-names
 headers_by-requires-clause-names c =
-    let N : List ClassFile → Type 0 = λ cs. (m : ℕ) (k : Coded) → slice_get c.in-Ok.flow.methods m ≡ Some k → k.name ≡ method_name cs m in
+    let N : List ClassFile → Type 0 = λ cs. (m : ℕ) (k : Coded) → slice_get c.in-Ok.flow.methods m ≡ Some k → k.name ≡ written_name cs m in
     subst N (sym c.program.ensures.program) c.in-Ok.ensures.names
 
 pub returns-in-Ok : goal.returns-in-Ok

@@ -1,11 +1,7 @@
 use Rattle.program_tables.specs.Resolved.{resolved}
 use Rattle.source_headers.proofs.ShapeLemmas.{shape_is}
-use Rattle.method_sources.proofs.BodyLemmas.{coded_is}
-use Rattle.source_headers.proofs.ToldLemmas.{all_headed}
+use Rattle.source_headers.proofs.ToldLemmas.{all_headed, not_both}
 use Rattle.source_headers.proofs.methods.loops_of.Goals as goal
-
-pub source_where-requires-clause-number : goal.source_where-requires-clause-number
-source_where-requires-clause-number c = coded_is c.methods_stand_by_number.ensures c.args.program.now c.args.number c.requires.coded
 
 pub source_where-requires-clause-shape : goal.source_where-requires-clause-shape
 source_where-requires-clause-shape c =
@@ -24,5 +20,7 @@ returns c =
       shape = shape;
       file = c.in_ok-source.ensures.file;
       source = c.in_ok-source.ensures.source;
+      within = c.in_ok-source.ensures.within;
       all = all_headed c.graphs_are_moved.ensures.graphs c.parts_are_sound.ensures c.ends_are_one.ensures c.graphs_are_one.ensures.whole P m c.in_ok-shape.shape shape;
+      apart = not_both c.graphs_are_moved.ensures.graphs c.parts_are_sound.ensures c.ends_are_one.ensures c.graphs_are_one.ensures.whole P m;
     }

@@ -3,7 +3,7 @@ use Rattle.std.specs.Prelude.{codes}
 use Rattle.std.proofs.lemmas.Result.{err_from_is_err_and}
 use Rattle.slot_table.specs.Parts.{IsClassText, IsMethodText, IsNameOf}
 use Rattle.slot_table.proofs.NameLemmas.{on_bad, no_name, other_end, suffix_is, is_name, other_class, other_method}
-use Rattle.slot_table.proofs.name.read_name.Goals as goal
+use Rattle.slot_table.proofs.name.parts_of.Goals as goal
 
 pub returns-in_default-clause-bad : goal.returns-in_default-clause-bad
 returns-in_default-clause-bad c = no_name c.args.text.now c.in_default.ensures
