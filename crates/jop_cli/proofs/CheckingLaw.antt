@@ -5,7 +5,8 @@ use Rattle.std.specs.declared.alloc.Global.{Global}
 use Rattle.std.specs.List.{concat}
 use Rattle.outside.specs.Outside.{Grew}
 use Rattle.class_pool.specs.declared.class.ClassFile.{ClassFile}
-use Rattle.program_tables.specs.Resolved.{resolved, method_name}
+use Rattle.program_tables.specs.Resolved.{resolved}
+use Rattle.method_names.specs.Written.{written_name}
 use Rattle.bytecode_model.specs.Program.{body_of}
 use Rattle.loop_bounds.specs.declared.BoundsFault.TheVariants as texts
 use Rattle.loop_bounds.specs.Bounds.{LoopBound}
@@ -49,7 +50,7 @@ use Rattle.jop_cli.proofs.AskingLaw as asked
 
 -- what this certificate comes to, with these bounds: it meets the conditions, or is refused by the first that fails; or there was no memory
 data Settled (cs : List ClassFile) (s : Settings) (lines : List LoopBound) (c : Certificate) (ending : Ending) : Type 0 where
-  holds : (held : Held) → ending ≡ endings.Holds held → MeetsConditions (resolved cs) (timing_of s) (bounds_of cs lines) c → BoundsActivations (resolved cs) (timing_of s) (bounds_of cs lines) c.root c.bound → held.name.items ≡ method_name cs c.root → held.bound ≡ c.bound → Settled cs s lines c ending
+  holds : (held : Held) → ending ≡ endings.Holds held → MeetsConditions (resolved cs) (timing_of s) (bounds_of cs lines) c → BoundsActivations (resolved cs) (timing_of s) (bounds_of cs lines) c.root c.bound → held.name.items ≡ written_name cs c.root → held.bound ≡ c.bound → Settled cs s lines c ending
   fails : (fault : CheckFault) (name : Vec ℕ Global) → ending ≡ endings.NotHeld fault name → IsCertRefused (resolved cs) (timing_of s) (bounds_of cs lines) c fault → name.items ≡ fault_name cs fault → Settled cs s lines c ending
   lacking : ending ≡ endings.NoMemory → Settled cs s lines c ending
 
@@ -65,7 +66,7 @@ module _ (one : GivesOne) (not_refused : ReadIsNotRefused) (certified : HasOneCe
       holds e.held e.says
       (subst (λ (x : Certificate). MeetsConditions (resolved l.classes) (timing_of s) (bounds_of l.classes lines) x) same meets)
       (subst (λ (o : Option ℕ). BoundsActivations (resolved l.classes) (timing_of s) (bounds_of l.classes lines) certificate.root o) (k.bound ∙ ap (λ (x : Certificate). x.bound) same) of_root)
-      (k.name ∙ ap (λ (x : Certificate). method_name l.classes x.root) same)
+      (k.name ∙ ap (λ (x : Certificate). written_name l.classes x.root) same)
       (k.bound ∙ ap (λ (x : Certificate). x.bound) same)
 
   fails_settled : (ending : Ending) (fault : CheckFault) (name : Vec ℕ Global) → ending ≡ endings.NotHeld fault name → FailsBy l.classes s h.bounds_text h.cert_text fault → name.items ≡ fault_name l.classes fault → Settled l.classes s lines certificate ending
@@ -122,9 +123,9 @@ module _ (c : Call) (ending : Ending) (w : IsWholly c ending) (quiet : IsQuiet c
   }
 
   holds_answered : (cs : List ClassFile) (s : Settings) (lines : List LoopBound) (d : Certificate) → RefusedIsNotMet → MeetsConditions (resolved cs) (timing_of s) (bounds_of cs lines) d → Settled cs s lines d ending
-      → AnswersLine c outcomes.Holds (held_parts (method_name cs d.root) d.bound) ⊎ LacksMemory c
+      → AnswersLine c outcomes.Holds (held_parts (written_name cs d.root) d.bound) ⊎ LacksMemory c
   holds_answered cs s lines d law meets (holds held is meets' kept name bound) =
-      inl (answers (endings.Holds held) outcomes.Holds (held_parts (method_name cs d.root) d.bound) is refl (ap₂ (λ (n : List ℕ) (b : Option ℕ). concat (held_parts n b)) name bound))
+      inl (answers (endings.Holds held) outcomes.Holds (held_parts (written_name cs d.root) d.bound) is refl (ap₂ (λ (n : List ℕ) (b : Option ℕ). concat (held_parts n b)) name bound))
   holds_answered cs s lines d law meets (fails fault name is refused name_is) = absurd (law (resolved cs) (timing_of s) (bounds_of cs lines) d fault refused meets)
   holds_answered cs s lines d law meets (lacking is) = inr (lacks c ending w is quiet)
 

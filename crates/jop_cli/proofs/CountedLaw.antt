@@ -23,7 +23,7 @@ use Rattle.jop_cli.proofs.HoldingLaw.{setting_of, timing_along, reset_timing}
 
 -- ---- the machine stands for the state at which a run begins
 
-first_stands : (g : Setting) (limit : ℕ) (first : Stage) (n : ℕ) (a : Stage) → Goes g limit first n a → Stands g a.machine a.state → Stands g first.machine first.state
+pub first_stands : (g : Setting) (limit : ℕ) (first : Stage) (n : ℕ) (a : Stage) → Goes g limit first n a → Stands g a.machine a.state → Stands g first.machine first.state
 first_stands g limit first zero a goes stands = subst (λ (x : Stage). Stands g x.machine x.state) goes stands
 first_stands g limit first (suc n) a (mid, goes, going, below, follows) stands = first_stands g limit first n mid goes follows.stands
 
@@ -40,7 +40,7 @@ given_more [] answer gives is (suc k) = tt
 given_more (x ∷ xs) answer gives is zero = gives zero
 given_more (x ∷ xs) answer gives is (suc k) = given_more xs answer (λ j. gives (suc j)) is k
 
-gives_bytes : (g : Setting) (limit : ℕ) (first : Stage) → first.state.answers ≡ [] → (n : ℕ) (a : Stage) → Goes g limit first n a → GivesBytes (input_of a.state.answers)
+pub gives_bytes : (g : Setting) (limit : ℕ) (first : Stage) → first.state.answers ≡ [] → (n : ℕ) (a : Stage) → Goes g limit first n a → GivesBytes (input_of a.state.answers)
 gives_bytes g limit first fresh zero a goes =
     let none : GivesBytes (input_of []) = λ k. tt in
     subst (λ (x : Stage). GivesBytes (input_of x.state.answers)) (sym goes) (subst (λ (xs : List (Option ℕ)). GivesBytes (input_of xs)) (sym fresh) none)

@@ -2,7 +2,6 @@
 use Rattle.std.proofs.Common.{◌≡◌, ℕ, Bool, true, false, List, Ok, refl, sym, ◌∙◌, ap, subst, inl, inr, ⊎_elim}
 use Rattle.std.specs.declared.option.Option.{Option}
 use Rattle.std.specs.declared.result.Result.{Result}
-use Rattle.commands.specs.declared.settings.Plan.{Plan}
 use Rattle.commands.specs.declared.show.Show.{Show}
 use Rattle.commands.specs.declared.show.Show.TheVariants as shows
 use Rattle.commands.specs.Show.{IsTrace}

@@ -6,7 +6,8 @@ use Rattle.std.proofs.lemmas.Bool.{and_parts, both_ways, cases_lt}
 use Rattle.class_pool.specs.declared.class.ClassFile.{ClassFile}
 use Rattle.class_lookup.specs.Parts.{same_text}
 use Rattle.bytecode_model.specs.Program.{Body, body_of}
-use Rattle.program_tables.specs.Resolved.{resolved, method_name}
+use Rattle.program_tables.specs.Resolved.{resolved}
+use Rattle.method_names.specs.Written.{written, written_name}
 use Rattle.program_resolution.proofs.NameLemmas.{same_self}
 use Rattle.jopizer.specs.Laws.{MainIsThere}
 use Rattle.analysis_commands.specs.Analysis.{named_or_number, number_text}
@@ -52,11 +53,11 @@ module _ (cs : List ClassFile) where
       let parts = and_parts (is_some (body_of (resolved cs) m)) (same_text (named_or_number cs m) executive_name) h in
       record { coded = parts.0; is_named = texts.same_text (named_or_number cs m) executive_name (sym parts.1) }
 
-  named : (m : ℕ) (o : Option Body) → is_some o ≡ true → elim o [ None ↦ number_text m | Some b ↦ method_name cs m ] ≡ method_name cs m
+  named : (m : ℕ) (o : Option Body) → is_some o ≡ true → elim o [ None ↦ number_text m | Some b ↦ written_name cs m ] ≡ written_name cs m
   named m None h = absurd (both_ways false refl h)
   named m (Some b) h = refl
 
-  executive : (m : ℕ) → IsSome (body_of (resolved cs) m) → method_name cs m ≡ executive_name → (e : ℕ) × IsExecutive (resolved cs) (named_or_number cs) e
+  executive : (m : ℕ) → IsSome (body_of (resolved cs) m) → written_name cs m ≡ executive_name → (e : ℕ) × IsExecutive (resolved cs) (named_or_number cs) e
   executive m coded name =
       let is : IsCyclicMain (resolved cs) (named_or_number cs) m = record { coded = coded; is_named = named m (body_of (resolved cs) m) coded ∙ name } in
       let least = first is_main m (passes m is) in
@@ -65,4 +66,4 @@ module _ (cs : List ClassFile) where
 pub executives_are_there : MainIsThere → ExecutivesAreThere
 executives_are_there main slots rounds files l with_it =
     let m = main l.files l.main l.classes with_it.is_linked.linked in
-    executive l.classes m.0 m.1 (m.2 ∙ ap (λ (class : List ℕ). class ++ codes ".main([Ljava/lang/String;)V") with_it.its_main)
+    executive l.classes m.0 m.1 (ap written (m.2 ∙ ap (λ (class : List ℕ). class ++ codes ".main([Ljava/lang/String;)V") with_it.its_main))

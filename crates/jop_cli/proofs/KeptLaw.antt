@@ -4,7 +4,8 @@ use Rattle.std.specs.Prelude.{Vec}
 use Rattle.std.specs.declared.alloc.Global.{Global}
 use Rattle.std.specs.List.{concat}
 use Rattle.outside.specs.Outside.{Grew}
-use Rattle.program_tables.specs.Resolved.{resolved, method_name}
+use Rattle.program_tables.specs.Resolved.{resolved}
+use Rattle.method_names.specs.Written.{written_name}
 use Rattle.activations.specs.Warrant.{BoundsActivations}
 use Rattle.command_line.specs.declared.command.Settings.{Settings}
 use Rattle.command_line.specs.declared.command.Command.TheVariants.{Check, Bound}
@@ -34,7 +35,7 @@ module _ (c : Call) (s : Settings) (image : ℕ) (w : IsWholly c c.answered.endi
   shows_held r e same a h =
       let k = h.shows.meets in
       let cs = a.linked.classes in
-      let says : line_of c.words c.answered.ending ≡ concat (held_parts (method_name cs k.certificate.root) k.certificate.bound) =
+      let says : line_of c.words c.answered.ending ≡ concat (held_parts (written_name cs k.certificate.root) k.certificate.bound) =
       ap (line_of c.words) (same ∙ h.says) ∙ ap₂ (λ (n : List ℕ) (b : Option ℕ). concat (held_parts n b)) k.name k.bound in
       let of_root = subst (λ (m : ℕ). BoundsActivations (resolved cs) (timing_of s) (bounds_of cs k.bounds) m h.held.bound) k.root h.shows.holds in
       record {

@@ -36,3 +36,11 @@ mod ImagesLaw
 mod MachinesLaw
 mod BareLaw
 mod OneRun
+mod Written
+mod AllBoundsLaw
+mod PlansKept
+mod ShownRuns
+mod NeedsInRuns
+mod FoundLoops
+mod ShownTexts
+mod ShownProfiles

@@ -1,5 +1,5 @@
 -- By the text of headers a bound of a method asks for what the lines say alone: the other loops count to their bounds.
-use Rattle.std.proofs.Common.{◌≡◌, ℕ, List, sym, subst, arith, inl, inr}
+use Rattle.std.proofs.Common.{ℕ, List, sym, subst, arith, inl, inr}
 use Rattle.class_pool.specs.declared.class.ClassFile.{ClassFile}
 use Rattle.program_tables.specs.Resolved.{resolved}
 use Rattle.program_tables.specs.Resolving.{IsResolved}

@@ -52,7 +52,7 @@ given [] new (x ∷ xs) (mid, first, rest) (suc k) below = given [] new xs (subs
 given (b ∷ bytes) new (x ∷ xs) (mid, first, rest) zero below = sym first.1.0
 given (b ∷ bytes) new (x ∷ xs) (mid, first, rest) (suc k) below = given bytes new xs (subst (λ (o : Option (List ℕ)). GivesEach o new xs) first.1.1 rest) k (omega (arith, below))
 
-front_of : (xs ys : List (Option ℕ)) (k : ℕ) → k < length xs → input_of (xs ++ ys) k ≡ input_of xs k
+pub front_of : (xs ys : List (Option ℕ)) (k : ℕ) → k < length xs → input_of (xs ++ ys) k ≡ input_of xs k
 front_of [] ys k h = absurd (omega (arith, h))
 front_of (x ∷ xs) ys zero h = refl
 front_of (x ∷ xs) ys (suc k) h = front_of xs ys k (omega (arith, h))

@@ -42,7 +42,7 @@ plan_refuses s plans.NoMemory = tt
 answer_refuses : (cs : List ClassFile) (s : Settings) (slots : List Slot) (bounds_text : List ℕ) (e : Ending) → AnswersPlan cs s slots bounds_text (Ends e) → IsRefusing e
 answer_refuses cs s slots bounds_text e ends = refusing_by e (plan_ending s ends.cause) ends.says (plan_refuses s ends.cause)
 
-plans_refuse : (s : Settings) (rounds : ℕ) (operands : List (List ℕ)) (e : Ending) → Plans s rounds operands (Ends e) → IsRefusing e
+pub plans_refuse : (s : Settings) (rounds : ℕ) (operands : List (List ℕ)) (e : Ending) → Plans s rounds operands (Ends e) → IsRefusing e
 plans_refuse s rounds operands e plan = ⊎_elim (λ u. unready_refuses _ rounds _ e u) (λ l. answer_refuses l.linked.classes s l.slots _ e l.answers) plan
 
 puts_no_input : (s : Settings) (rounds : ℕ) (operands : List (List ℕ)) (answer : Answer) (old new : Option (List ℕ)) (before now : ℕ) → Plans s rounds operands answer → PutsAnswer answer old new before now endings.InputFault → ⊥

@@ -13,8 +13,10 @@ use Rattle.slot_table.specs.Executive.{call_place}
 use Rattle.activation_watch.specs.declared.slots.Slots.{Slots}
 use Rattle.activations.specs.Setting.{Setting}
 use Rattle.activations.specs.Activations.{Stage}
+use Rattle.activations.specs.Warrant.{BoundsActivations}
 use Rattle.activation_laws.specs.Profiled.{FirstHasTiming}
 use Rattle.activation_laws.specs.Called.{CalledKeepBounds}
+use Rattle.method_flow.specs.declared.timing.Timing.{Timing}
 use Rattle.method_flow.specs.Calls.{IsTarget}
 use Rattle.bound_sound.specs.Laws.{CertificatesAreSound}
 use Rattle.boundary.specs.Followed.{RunsAreInARow}
@@ -185,7 +187,6 @@ both false b e = absurd (cc)
 pub slots_are_kept : CertificatesAreSound → RunsAreInARow → CalledKeepBounds → SlotsAreKept
 slots_are_kept sound rows called w executive number slot x is_executive slot_is at i keeps =
     let s = w.settings in
-    let are = w.are in
     let l = w.linked in
     let slots = w.slots in
     let plan = w.plan in
@@ -217,7 +218,8 @@ slots_are_kept sound rows called w executive number slot x is_executive slot_is 
     let in_row = rows g s.cycles a y.now told then r.followed.end y.runs in
     let seen = rows_are_seen g stages in_row.row in
     let timing : FirstHasTiming (timing_of s) stages = subst (FirstHasTiming (timing_of s)) (sym in_row.begins) (reset_timing s r.ran.config s.stack l.laid.words r.ran.has) in
-    let bounds = certified_of sound l.classes s plan.bounds b.method (Some bound) are b.certified in
+    let by_plan = certified_of sound l.classes w.planned plan.bounds b.method (Some bound) w.are b.certified in
+    let bounds = subst (λ (t : Timing). BoundsActivations (resolved l.classes) t (bounds_of l.classes plan.bounds) b.method (Some bound)) (sym w.timing) by_plan in
     let most = called g stages heres (timing_of s) (bounds_of l.classes plan.bounds) b.method bound x y.is_setting seen timing bounds one i keeps in
     let keeps_length = kept.keeps in
     omega (arith, most, keeps_length)

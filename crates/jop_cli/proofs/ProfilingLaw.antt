@@ -174,7 +174,7 @@ certified_of sound cs s bounds m bound are c =
     let kept = sound (resolved cs) (timing_of s) (bounds_of cs bounds) c.certificate are.read_most are.write_most c.meets in
     subst (λ (k : ℕ). B k bound) c.of_method (subst (B c.certificate.root) c.says kept)
 
-certified : CertificatesAreSound → (cs : List ClassFile) (s : Settings) (bounds : List LoopBound) (m : ℕ) (answer : BoundAnswer) (bound : Option ℕ) → AreSettings s → bound_told answer ≡ Some bound
+pub certified : CertificatesAreSound → (cs : List ClassFile) (s : Settings) (bounds : List LoopBound) (m : ℕ) (answer : BoundAnswer) (bound : Option ℕ) → AreSettings s → bound_told answer ≡ Some bound
     → IsBoundAnswer (resolved cs) (timing_of s) (bounds_of cs bounds) m answer → BoundsActivations (resolved cs) (timing_of s) (bounds_of cs bounds) m bound
 certified sound cs s bounds m answer bound are told is = by answer told is
   where

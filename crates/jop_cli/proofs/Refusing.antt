@@ -144,7 +144,7 @@ linked_says words (questions.Loops false) l operands e is = refuses (refusing_by
 linked_says words questions.Headers l operands e ends = refuses (refusing_by e (header_ending ends.fault) ends.says (header_refuses ends.fault))
 linked_says words questions.Memory l operands e ends = refuses (refusing_by e (memory_ending ends.refusal) ends.says (need_refuses ends.refusal))
 
-too_long_refuses : (s : Settings) (image : BareContent) (e : Ending) → EndsTooLong s image e → IsRefusing e
+pub too_long_refuses : (s : Settings) (image : BareContent) (e : Ending) → EndsTooLong s image e → IsRefusing e
 too_long_refuses s image e long = refusing_by e _ long.says tt
 
 pub bare_refuses : (question : Question) (image : BareContent) (operands : List (List ℕ)) (e : Ending) → IsBareAnswer question image operands (Ends e) → IsRefusing e

@@ -61,7 +61,8 @@ use Rattle.slot_table.specs.declared.slot.Slot.{Slot}
 use Rattle.slot_table.specs.Grammar as tables
 use Rattle.commands.specs.declared.outcome.Ending.{Ending}
 use Rattle.commands.specs.declared.outcome.Ending.TheVariants as endings
-use Rattle.program_tables.specs.Resolved.{resolved, method_name}
+use Rattle.program_tables.specs.Resolved.{resolved}
+use Rattle.method_names.specs.Written.{written_name}
 use Rattle.program_tables.specs.Resolving.{IsResolved}
 use Rattle.loop_rules.specs.declared.found.FoundLoop.{FoundLoop}
 use Rattle.loop_rules.specs.Sites.{int_at}
@@ -281,7 +282,7 @@ CheckingIsComplete =
     (c : Call) (settings : Settings) (image : ℕ) (l : Parts) (lines : List LoopBound) (certificate : Certificate)
     → ChecksTexts c settings image l lines certificate → NothingFailed c
     → MeetsConditions (resolved l.classes) (timing_of settings) (bounds_of l.classes lines) certificate
-    → AnswersLine c Holds (held_parts (method_name l.classes certificate.root) certificate.bound) ⊎ LacksMemory c
+    → AnswersLine c Holds (held_parts (written_name l.classes certificate.root) certificate.bound) ⊎ LacksMemory c
 
 -- What a call shows that answers that a certificate holds: these are the bytes of its files, of the image of what is linked, of bounds and of the
 -- certificate; it meets the conditions, and the line says its method and its bound. There is a machine of each size for the program. Each ended
@@ -301,7 +302,7 @@ pub record ShowsHeld (c : Call) (settings : Settings) (image : ℕ) : Type 0 whe
   pub certificate : Certificate
   pub text : AreLinesOf (text_lines (text_of_word files 2)) certificate
   pub meets : MeetsConditions (resolved linked.classes) (timing_of settings) (bounds_of linked.classes lines) certificate
-  pub says : Grew c.err_old c.err_new (concat (held_parts (method_name linked.classes certificate.root) certificate.bound))
+  pub says : Grew c.err_old c.err_new (concat (held_parts (written_name linked.classes certificate.root) certificate.bound))
   pub kept : BoundsActivations (resolved linked.classes) (timing_of settings) (bounds_of linked.classes lines) certificate.root certificate.bound
 
 abbrev pub CheckedBoundsAreKept : Type 0
@@ -408,7 +409,7 @@ BoundsAreKept = CheckedBoundsAreKept × WrittenBoundsAreKept
 abbrev pub NamesTellMethods : Type 0
 NamesTellMethods =
     (cs : List ClassFile) → IsResolved cs → (m n : ℕ) → IsSome (body_of (resolved cs) m) → IsSome (body_of (resolved cs) n)
-    → method_name cs m ≡ method_name cs n → m ≡ n
+    → written_name cs m ≡ written_name cs n → m ≡ n
 
 -- ---- the bounds in the runs
 
@@ -562,15 +563,17 @@ cycle_boundaries settings l slots old new ending r =
     run_stages (linked_setting l.classes settings.stack r.ran.config.memory) (linked_reset settings.stack l.laid.words r.ran.config) settings.cycles
     (wired old) (wired new) r.followed r.ran.cycles.ran
 
--- a plan of slots, and a cycle of the same that ran, with the same settings
+-- a plan of slots, and a cycle of the same that ran, with the same waits and the same sizes of the method cache
 pub record PlannedCycle : Type 0 where
-  pub settings : Settings
-  pub are : AreSettings settings
+  pub planned : Settings
+  pub are : AreSettings planned
   pub linked : Parts
   pub slots : List Slot
   pub bounds_text : List ℕ
   pub text : List ℕ
-  pub plan : IsPlan linked.classes settings bounds_text slots text
+  pub plan : IsPlan linked.classes planned bounds_text slots text
+  pub settings : Settings
+  pub timing : timing_of settings ≡ timing_of planned
   pub old : Lent
   pub new : Lent
   pub ending : Ending

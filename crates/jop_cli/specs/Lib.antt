@@ -10,3 +10,4 @@ pub mod Calls
 pub mod Courses
 pub mod Correct
 pub mod Refusals
+pub mod promises

@@ -1,7 +1,8 @@
 -- What a profile is told with: the table of a program, what is answered of its methods' bounds, and totals that have been handed nothing.
 use Rattle.std.specs.Prelude.{◌≡◌, ℕ, List, length, Some, slice_get}
 use Rattle.class_pool.specs.declared.class.ClassFile.{ClassFile}
-use Rattle.program_tables.specs.Resolved.{resolved, method_name}
+use Rattle.program_tables.specs.Resolved.{resolved}
+use Rattle.method_names.specs.Written.{written_name}
 use Rattle.bytecode_model.specs.Program.{Program}
 use Rattle.method_flow.specs.Flow.{Coded, IsFlowOf}
 use Rattle.node_costs.specs.Costs as table
@@ -19,7 +20,7 @@ use Rattle.commands.specs.Checking.{fault_ending}
 
 pub record IsPrepared (s : Settings) (cs : List ClassFile) (bounds : List LoopBound) (p : Prepared) : Type 0 where
   pub flow : IsFlowOf (resolved cs) p.flow
-  pub names : (m : ℕ) (k : Coded) → slice_get p.flow.methods m ≡ Some k → k.name ≡ method_name cs m
+  pub names : (m : ℕ) (k : Coded) → slice_get p.flow.methods m ≡ Some k → k.name ≡ written_name cs m
   pub long : length p.answers.items ≡ length p.flow.methods
   pub each : (P : Program) → IsFlowOf P p.flow → (m : ℕ) (x : BoundAnswer) → slice_get p.answers.items m ≡ Some x
       → IsBoundAnswer P (timing_of s) (table.bounds_of p.flow bounds) m x

@@ -8,21 +8,35 @@ ghost use Rattle.jop_cli.specs.Correct.{BoundsHoldInRuns, MethodsAreLoadedOnce, 
 ghost use Rattle.jop_cli.specs.Correct.{HeaderFilesAreTaken, HeaderFilesHaveBounds, NotedLoopsAreKept, QuestionsAreAnswered, NeedsSuffice, NamesTellMethods};
 ghost use Rattle.jop_cli.specs.Correct.{ProfilesAreComplete, ProfilesAreKept, ExecutivesAreThere, PlansAreAnswered, CyclesAreRuns, SlotsAreKept, ReportsAddUp};
 ghost use Rattle.jop_cli.specs.Correct.{WorkingIsComplete, RunsAreOne, WorkLinesAreTrue};
+ghost use Rattle.jop_cli.specs.promises.Bounds.{AllBoundsAreKept, ShapesAreKept};
+ghost use Rattle.jop_cli.specs.promises.Checks.{CheckedRunsAreKept};
+ghost use Rattle.jop_cli.specs.promises.Images.{OneLinkedImage};
+ghost use Rattle.jop_cli.specs.promises.Loops.{FoundLoopsAreKept, FurtherFoundLoopsAreKept};
+ghost use Rattle.jop_cli.specs.promises.Needs.{NeedsAreShown, NeedsSufficeInRuns};
+ghost use Rattle.jop_cli.specs.promises.Plans.{CyclesAreShown, NoSlotIsLate, PlansAreKept};
+ghost use Rattle.jop_cli.specs.promises.Profiles.{ProfilesAreShown};
+ghost use Rattle.jop_cli.specs.promises.Reports.{ReportsAreKept};
+ghost use Rattle.jop_cli.specs.promises.Runs.{RunsAreShown, RunsComeToBoundaries};
+ghost use Rattle.jop_cli.specs.promises.Texts.{HeadersAreShown, LinkedImagesAreShown, ListingsAreShown};
 ghost use Rattle.jop_cli.specs.Refusals.{NoCommandIsRefused, LongFilesAreRefused, BadImagesAreRefused, UnlinkedImagesAreRefused, DifferingImagesAreRefused};
 ghost use Rattle.jop_cli.specs.Refusals.{LongMethodsAreRefused, LongBareCodesAreRefused, SmallMemoriesAreRefused};
 
-use activation_laws::{called_keep_bounds, profiles_keep_bounds};
+use activation_laws::{activations_are_seen, called_keep_bounds, profiles_keep_bounds};
 use activations::laws::{places_tell_words, steps_are_told};
 use bound_cert::has_one_certificate;
 use bound_report::laws::parts_add_up;
-use bound_rules::laws::{faults_are_one, refused_is_not_met};
+use bound_rules::laws::{faults_are_one, graphs_are_one, refused_is_not_met};
 use bound_sound::certificates_are_sound;
 use bound_sound::loads::{activations_load_once, loads_are_misses, stays_load_once};
 use boundary::laws::runs_are_in_a_row;
+use boundary::verified_programs_are_told;
 use class_file::laws::one_class;
 use counted_activations::laws::{
-    counted_loops_of_runs, found_loops_count, further_found_loops_count, further_loops_of_runs,
+    boot_holds_constants, counted_loops_of_runs, found_loops_count, further_found_loops_count,
+    further_loops_of_runs,
 };
+use counted_laws::laws::{boot_holds_known, counted_loops_are_further, further_loops_keep};
+use further_rules::laws::puts_keep_arrays;
 use image_file::one_image;
 use jopizer::laws::{
     linked_files_are_not_refused, linked_images_are_read, main_is_there, one_linked,
@@ -30,7 +44,7 @@ use jopizer::laws::{
 };
 use loop_bounds::laws::{gives_one, read_is_not_refused};
 use memory_laws::laws::{heap_need_suffices, stack_need_suffices};
-use method_names::names::names_are_one;
+use method_names::laws::written_names_are_one;
 use report_lines::laws::lines_add_up;
 use source_headers::laws::{files_bound_headers, header_files_are_read, roots_have_lines};
 
@@ -39,16 +53,21 @@ pub fn linking_is_exact()
     ensures complete { LinkingIsComplete }
     ensures refused { LinkRefusalsAreAnswered }
     ensures one { LinkRefusalsAreOne }
+    ensures shown { LinkedImagesAreShown }
 {
     linked_files_are_not_refused();
     refusals_are_one();
 }
 
-/// The run of an image that is linked is that of its program, and its trace that of the run, which is one.
+/// The run of an image that is linked is that of its program, and its trace that of the run, which is one; so it is wherever the answer is
+/// how a run ended, and the boundary to which it came is one of its boundaries. Bytes are those of one such image.
 pub fn runs_are_the_bytecodes()
     ensures runs { RunsAreTheBytecodes }
     ensures traces { TracesAreTheRuns }
     ensures one { RunsAreOne }
+    ensures shown { RunsAreShown }
+    ensures boundary { RunsComeToBoundaries }
+    ensures image { OneLinkedImage }
 {
     one_linked();
     linked_images_are_read();
@@ -72,6 +91,7 @@ pub fn assembling_is_exact()
     ensures complete { AssemblingIsComplete }
     ensures refused { AsmRefusalsAreAnswered }
     ensures one { AsmRefusalsAreOne }
+    ensures shown { ListingsAreShown }
 {}
 
 /// A certificate that meets the conditions holds, and one that doesn't is refused by the first condition that fails.
@@ -102,22 +122,31 @@ pub fn bounding_is_exact()
     read_is_not_refused();
     bound_laws::laws::refusals_are_one();
     bound_laws::laws::own_costs_exist();
-    names_are_one();
+    written_names_are_one();
     bound_laws::laws::resolved_codes_are_short();
 }
 
 /// Where the answer is that a certificate holds, or that one is written, the activations of its method take at most as many cycles as its
-/// bound says.
+/// bound says; and where it is that lines are written, each bound in them is kept: of all methods, of all shapes of the method cache, of a
+/// report and of a plan.
 pub fn bounds_are_kept()
-    ensures { BoundsAreKept }
-{}
+    ensures certificates { BoundsAreKept }
+    ensures all { AllBoundsAreKept }
+    ensures shapes { ShapesAreKept }
+    ensures reports { ReportsAreKept }
+    ensures plans { PlansAreKept }
+{
+    certificates_are_sound();
+}
 
-/// A bound of a method holds of the runs of what is linked, in which activations of methods that fit the cache load each method at most
-/// once.
+/// A bound of a method holds of the runs of what is linked, that of a certificate that holds of the runs of the same bytes. In them
+/// activations of methods that fit the cache load each method at most once.
 pub fn bounds_hold_in_runs()
     ensures holds { BoundsHoldInRuns }
+    ensures checked { CheckedRunsAreKept }
     ensures loads { MethodsAreLoadedOnce }
 {
+    one_linked();
     places_tell_words();
     steps_are_told();
     activations_load_once();
@@ -129,6 +158,7 @@ pub fn bounds_hold_in_runs()
 pub fn profiles_are_complete()
     ensures complete { ProfilesAreComplete }
     ensures kept { ProfilesAreKept }
+    ensures shown { ProfilesAreShown }
 {
     one_linked();
     linked_images_are_read();
@@ -151,28 +181,39 @@ pub fn executives_are_answered()
     ensures there { ExecutivesAreThere }
     ensures plans { PlansAreAnswered }
     ensures cycles { CyclesAreRuns }
+    ensures shown { CyclesAreShown }
 {
     main_is_there();
     slot_table::laws::gives_one();
     slot_table::laws::read_is_not_refused();
 }
 
-/// Where there is a plan, the slots of a cycle keep their lengths.
+/// Where there is a plan, the slots of a cycle keep their lengths, and its line says that none was late.
 pub fn slots_are_kept()
-    ensures { SlotsAreKept }
+    ensures kept { SlotsAreKept }
+    ensures late { NoSlotIsLate }
 {
     certificates_are_sound();
     runs_are_in_a_row();
     called_keep_bounds();
+    activations_are_seen();
 }
 
-/// Where the answer is that the lines of loops are written, the loops count to their numbers; in the runs of what is linked a bound of a
-/// method asks for the other loops alone.
+/// Where the answer is that the lines of loops are written, the loops count to their numbers; in the runs of what is linked, ended or not,
+/// each frame keeps these, and a bound of a method asks for the other loops alone.
 pub fn loops_count()
     ensures written { WrittenLoopsCount }
+    ensures found { FoundLoopsAreKept }
+    ensures further_found { FurtherFoundLoopsAreKept }
     ensures kept { CountedLoopsAreKept }
     ensures further_kept { FurtherLoopsAreKept }
 {
+    graphs_are_one();
+    further_loops_keep();
+    counted_loops_are_further();
+    boot_holds_constants();
+    boot_holds_known();
+    puts_keep_arrays();
     found_loops_count();
     further_found_loops_count();
     places_tell_words();
@@ -187,6 +228,7 @@ pub fn headers_bound_loops()
     ensures taken { HeaderFilesAreTaken }
     ensures bounds { HeaderFilesHaveBounds }
     ensures kept { NotedLoopsAreKept }
+    ensures shown { HeadersAreShown }
 {
     header_files_are_read();
     files_bound_headers();
@@ -203,10 +245,13 @@ pub fn questions_are_answered()
     linked_images_are_read();
 }
 
-/// What `memory` tells suffices.
+/// What `memory` tells suffices, and so it does in the runs of what is linked.
 pub fn needs_suffice()
-    ensures { NeedsSuffice }
+    ensures suffice { NeedsSuffice }
+    ensures shown { NeedsAreShown }
+    ensures in_runs { NeedsSufficeInRuns }
 {
+    verified_programs_are_told();
     stack_need_suffices();
     heap_need_suffices();
 }

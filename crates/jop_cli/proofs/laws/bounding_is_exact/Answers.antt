@@ -11,7 +11,7 @@ returns-clause-caused c = law.bound_refusals_are_caused c.gives_one.ensures c.re
 pub returns-clause-answered : goal.returns-clause-answered
 returns-clause-answered c =
     causes_are_answered c.gives_one.ensures c.read_is_not_refused.ensures c.one_linked.ensures c.linked_images_are_read.ensures c.refusals_are_one.ensures.one c.refusals_are_one.ensures.none
-    c.own_costs_exist.ensures c.names_are_one.ensures c.resolved_codes_are_short.ensures
+    c.own_costs_exist.ensures c.written_names_are_one.ensures.one c.resolved_codes_are_short.ensures
 
 pub returns-clause-names : goal.returns-clause-names
-returns-clause-names c = c.names_are_one.ensures
+returns-clause-names c = c.written_names_are_one.ensures.one

@@ -1,4 +1,5 @@
 use Rattle.jop_cli.proofs.NotedLaw as law
+use Rattle.jop_cli.proofs.ShownTexts.{headers_are_shown}
 use Rattle.jop_cli.proofs.laws.headers_bound_loops.Goals as goal
 
 pub returns-clause-taken : goal.returns-clause-taken
@@ -9,3 +10,6 @@ returns-clause-bounds c = c.roots_have_lines.ensures
 
 pub returns-clause-kept : goal.returns-clause-kept
 returns-clause-kept c = law.noted_loops_are_kept c.found_loops_count.ensures c.files_bound_headers.ensures.sources c.loops_count.ensures.kept
+
+pub returns-clause-shown : goal.returns-clause-shown
+returns-clause-shown c = headers_are_shown

@@ -1,9 +1,18 @@
 use Rattle.jop_cli.proofs.LoopsLaw.{written_loops_count}
 use Rattle.jop_cli.proofs.CountedLaw.{counted_loops_are_kept, further_loops_are_kept}
+use Rattle.jop_cli.proofs.FoundLoops as frames
 use Rattle.jop_cli.proofs.laws.loops_count.Goals as goal
 
 pub returns-clause-written : goal.returns-clause-written
 returns-clause-written c = written_loops_count c.found_loops_count.ensures c.further_found_loops_count.ensures
+
+pub returns-clause-found : goal.returns-clause-found
+returns-clause-found c =
+    frames.found_loops_are_kept c.graphs_are_one.ensures.whole c.further_loops_keep.ensures c.counted_loops_are_further.ensures c.boot_holds_constants.ensures
+
+pub returns-clause-further_found : goal.returns-clause-further_found
+returns-clause-further_found c =
+    frames.further_found_loops_are_kept c.graphs_are_one.ensures.whole c.further_loops_keep.ensures c.boot_holds_constants.ensures c.boot_holds_known.ensures c.puts_keep_arrays.ensures
 
 pub returns-clause-kept : goal.returns-clause-kept
 returns-clause-kept c = counted_loops_are_kept c.places_tell_words.ensures c.steps_are_told.ensures c.counted_loops_of_runs.ensures

@@ -1,0 +1,74 @@
+-- What a call of `bound --all` or of `bound --shapes` shows that answers that its lines are written: each number in a line is kept.
+use Rattle.std.specs.Prelude.{◌≡◌, ℕ, ◌+◌, ◌⊎◌, List, Some, Ok, slice_get}
+use Rattle.std.specs.declared.option.Option.{Option}
+use Rattle.class_pool.specs.declared.class.ClassFile.{ClassFile}
+use Rattle.outside.specs.Outside.{Grew}
+use Rattle.outside.specs.Files.{AreFiles}
+use Rattle.program_tables.specs.Resolved.{resolved}
+use Rattle.activations.specs.Warrant.{BoundsActivations}
+use Rattle.method_bounds.specs.declared.answer.BoundAnswer.{BoundAnswer}
+use Rattle.command_line.specs.declared.command.Settings.{Settings}
+use Rattle.command_line.specs.declared.command.Command.TheVariants.{BoundAll, BoundShapes}
+use Rattle.command_line.specs.Command.{command_of}
+use Rattle.jopizer.specs.Linked.{Parts}
+use Rattle.analysis_commands.specs.Analysis.{timing_of, bounds_of}
+use Rattle.analysis_commands.specs.Bounding.{IsBoundNumber}
+use Rattle.analysis_commands.specs.Shapes.{shape_with, with_shape, AreShapeLines}
+use Rattle.commands.specs.declared.outcome.Outcome.TheVariants.{Written}
+use Rattle.commands.specs.Line.{text_of_word}
+use Rattle.commands.specs.AllBounds.{SaysBounds}
+use Rattle.jop_cli.specs.Calls.{Call}
+use Rattle.jop_cli.specs.Profiling.{bound_told}
+use Rattle.jop_cli.specs.Correct.{HasNoLoop}
+use Rattle.jop_cli.specs.promises.Images.{IsOpened}
+
+-- ---- `bound --all`
+
+-- The lines were put of all methods of what is linked, with what is answered of each. A bound in a line is kept: each ended activation of the method takes at
+-- most so many cycles, on each machine with these waits and a method cache of these sizes, where its loops keep the bounds; where the line says never, no such
+-- activation ends.
+pub record AllBoundsKept (c : Call) (settings : Settings) (files : List (List ℕ)) : Type 0 where
+  pub linked : Parts
+  pub opened : IsOpened (text_of_word files 0) linked
+  pub text : List ℕ
+  pub says : SaysBounds linked.classes settings (text_of_word files 1) text
+  pub put : Grew c.old.out c.new.out text
+  pub kept : (m : ℕ) (answer : BoundAnswer) (bound : Option ℕ) → slice_get says.lines.answers m ≡ Some answer → bound_told answer ≡ Some bound
+      → BoundsActivations (resolved linked.classes) (timing_of settings) (bounds_of linked.classes says.bounds) m bound
+
+-- or no line was put of a bare image
+pub record ShowsAllBounds (c : Call) (settings : Settings) (image : ℕ) : Type 0 where
+  pub files : List (List ℕ)
+  pub are : AreFiles c.old.files image (image + 2) files
+  pub shows : AllBoundsKept c settings files ⊎ HasNoLoop c (text_of_word files 0)
+
+abbrev pub AllBoundsAreKept : Type 0
+AllBoundsAreKept =
+    (c : Call) (settings : Settings) (image bounds : ℕ) → command_of c.words ≡ Ok (BoundAll settings image bounds) → c.outcome ≡ Written
+    → ShowsAllBounds c settings image
+
+-- ---- `bound --shapes`
+
+-- Each bound that is found with these settings of the method of this name is kept.
+abbrev pub KeepsNumbers : List ClassFile → Settings → (bounds_text name : List ℕ) → Type 0
+KeepsNumbers cs s bounds_text name =
+    (bound : Option ℕ) (number : IsBoundNumber cs s bounds_text name bound)
+    → BoundsActivations (resolved cs) (timing_of s) (bounds_of cs number.bounds) number.certificate.root bound
+
+-- The lines were put of all shapes of the method cache, each with the bound that is found in its shape; and such a bound is kept on machines with a cache of
+-- that shape.
+pub record ShowsShapes (c : Call) (settings : Settings) (method image : ℕ) : Type 0 where
+  pub files : List (List ℕ)
+  pub are : AreFiles c.old.files image (image + 2) files
+  pub linked : Parts
+  pub opened : IsOpened (text_of_word files 0) linked
+  pub text : List ℕ
+  pub lines : AreShapeLines linked.classes settings (text_of_word files 1) (text_of_word c.words method) text
+  pub put : Grew c.old.out c.new.out text
+  pub kept : (block_words blocks : ℕ)
+      → KeepsNumbers linked.classes (with_shape settings (shape_with block_words blocks)) (text_of_word files 1) (text_of_word c.words method)
+
+abbrev pub ShapesAreKept : Type 0
+ShapesAreKept =
+    (c : Call) (settings : Settings) (method image bounds : ℕ) → command_of c.words ≡ Ok (BoundShapes settings method image bounds) → c.outcome ≡ Written
+    → ShowsShapes c settings method image
