@@ -310,7 +310,6 @@ neither tells a number gets `# NAME PC loop<=`: put one in, and take away the `#
 
 remarks:
   # NAME irreducible NODE..                a loop of the method has several entries: it can't be bounded
-  # method=M unnamed                       its name holds a space or begins with #, so that no line can name it
 
 answers:
   none, and the text                       status 0
@@ -330,7 +329,8 @@ const MEMORY: &str = "\
 jop memory IMAGE BOUNDS SIZES
 
 Puts `memory stack=X image=I heap=Y` on standard output: the words that the frames of a run take at most, those of the
-image, and those of the objects that a run makes at most. `--memory` of at least I + Y is enough for `run`.
+image, and those of the objects that a run makes at most. For `run` a `--stack` of at least X + 80 is enough (256 hold
+176 words of frames, 512 hold 432, 1024 hold 944), and a `--memory` of at least I + Y.
 
   BOUNDS         a text of lines `NAME PC loop<=N`, a line for each loop that makes objects
   SIZES          a text of lines `NAME PC length<=N`, a line for each array whose length is no constant
