@@ -44,3 +44,4 @@ mod NeedsInRuns
 mod FoundLoops
 mod ShownTexts
 mod ShownProfiles
+pub mod HeldLines

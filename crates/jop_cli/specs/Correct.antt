@@ -1,11 +1,13 @@
--- What the program promises, on one page: each statement is the contract of a function of `laws`, and follows from the contract of `jop`, which makes a call of
--- each use of it (`call_of` in Calls). The definitions below it, in the order in which to read them:
---   class_rules Grammar (what a class file is), program_tables Resolving (what resolved is), bytecode_verifier Failure (what verified is),
---   program_tables Resolved (the program of resolved classes), bytecode_model State and Steps (what a step of the bytecode is),
---   jop_core State, Cycle and Reset (what a cycle of the machine is), machine_stands StandsFor (which state the machine stands for),
---   boundary Runs (the run of both), image_words Regions and image_file Linked (what an image and its file are), image_file Bare and microcode_asm Roms
---   (the same of a bare image and of a microprogram), command_line Command (what words say), and of this crate Tasks (what commands do), World,
---   Linking, LinkedSettings, Calls and Courses.
+-- What the program promises: each statement is the contract of a function of `laws`, and follows from the contract of `jop`, which makes a call of each use of
+-- it (`call_of` in Calls); `promises` has what outcomes show alone and promise together. `docs/book NAME` prints what one must believe for a statement, in
+-- reading order: bytecode_model State, Program, Effects, Table and Steps (what a step of the bytecode is), bytecode_typing Checks, Walk and Fits (what
+-- verified is), jop_core State, Operations and Cycle (a cycle of the machine), machine_stands StandsFor and Comes (which state it stands for), activations
+-- Setting and Activations, loop_nest Walks, method_flow Graphs, Live and Keeping (graphs, and walks that keep bounds), activations Keeping and Warrant (what a
+-- bound says), class_lookup and program_tables Resolved (the program of resolved classes), bound_rules Costs, Numbers, Told, Sections and Conditions (the
+-- number, and the conditions on a certificate), section_check Conditions, bound_cert Certificate and Texts, class_rules Grammar, program_resolution Resolving,
+-- image_words Regions, image_layout Layout, image_file Linked, jopizer Linked (what is linked), command_line Command, boundary Runs (the run of both),
+-- loop_rules Finding, further_rules Known, memory_rules Stack and Heap, source_headers Files, activation_watch Watched, slot_table Grammar, and of this crate
+-- Answer, Calls, Courses.
 use Rattle.std.specs.Prelude.{◌≡◌, ◌↔◌, ℕ, suc, ◌+◌, ◌≤◌, ◌⊎◌, ℤ, Bool, true, List, [], ◌∷◌, ◌++◌, length, Contains, Option, Some, IsSome, Ok, MatchOption}
 use Rattle.std.specs.Prelude.{false, Vec, slice_get}
 use Rattle.std.specs.declared.alloc.Global.{Global}

@@ -9,3 +9,4 @@ pub mod Profiles
 pub mod Loops
 pub mod Needs
 pub mod Checks
+pub mod Lines

@@ -11,6 +11,7 @@ ghost use Rattle.jop_cli.specs.Correct.{WorkingIsComplete, RunsAreOne, WorkLines
 ghost use Rattle.jop_cli.specs.promises.Bounds.{AllBoundsAreKept, ShapesAreKept};
 ghost use Rattle.jop_cli.specs.promises.Checks.{CheckedRunsAreKept};
 ghost use Rattle.jop_cli.specs.promises.Images.{OneLinkedImage};
+ghost use Rattle.jop_cli.specs.promises.Lines.{HeldLinesAreOne};
 ghost use Rattle.jop_cli.specs.promises.Loops.{FoundLoopsAreKept, FurtherFoundLoopsAreKept};
 ghost use Rattle.jop_cli.specs.promises.Needs.{NeedsAreShown, NeedsSufficeInRuns};
 ghost use Rattle.jop_cli.specs.promises.Plans.{CyclesAreShown, NoSlotIsLate, PlansAreKept};
@@ -109,12 +110,13 @@ pub fn checking_is_exact()
 }
 
 /// A certificate of a method is written where nothing forbids a bound; where none is, the cause that is answered forbids it, and a cause
-/// that stands is answered. A name is that of one method with code.
+/// that stands is answered. A name is that of one method with code, and the line of a certificate that holds tells its method and its bound.
 pub fn bounding_is_exact()
     ensures complete { BoundingIsComplete }
     ensures caused { BoundRefusalsAreCaused }
     ensures answered { CausesAreAnswered }
     ensures names { NamesTellMethods }
+    ensures lines { HeldLinesAreOne }
 {
     one_linked();
     linked_images_are_read();

@@ -1,5 +1,6 @@
 use Rattle.jop_cli.proofs.BoundingLaw as law
 use Rattle.jop_cli.proofs.CausesLaw.{causes_are_answered}
+use Rattle.jop_cli.proofs.HeldLines.{held_lines_are_one}
 use Rattle.jop_cli.proofs.laws.bounding_is_exact.Goals as goal
 
 pub returns-clause-complete : goal.returns-clause-complete
@@ -15,3 +16,6 @@ returns-clause-answered c =
 
 pub returns-clause-names : goal.returns-clause-names
 returns-clause-names c = c.written_names_are_one.ensures.one
+
+pub returns-clause-lines : goal.returns-clause-lines
+returns-clause-lines c = held_lines_are_one c.written_names_are_one.ensures.one
