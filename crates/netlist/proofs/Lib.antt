@@ -1,0 +1,9 @@
+mod Worked
+mod Ranges
+mod Tests
+mod Wires
+mod Names
+mod Clocks
+mod Edges
+mod Operators
+mod Fits

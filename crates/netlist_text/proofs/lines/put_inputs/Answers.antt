@@ -1,0 +1,8 @@
+use Rattle.netlist_text.specs.Text.{input_text}
+use Rattle.netlist_text.proofs.Texts.{appended_flat}
+use Rattle.netlist_text.proofs.lines.put_inputs.Goals as goal
+
+pub loop-port-preserved : goal.loop-port-preserved
+loop-port-preserved c =
+    appended_flat input_text c.args.ports.now c.loop-port.port-index c.port-item.result c.args.out.now.items c.loop-port.out.items
+    c.put_input.new.out.items c.loop-port-test.true c.port-item.is c.loop-port.invariant c.in_ok-put_input.ensures

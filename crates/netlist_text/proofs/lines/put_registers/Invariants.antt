@@ -1,0 +1,6 @@
+use Rattle.std.proofs.Common.{◌≡◌, ◌++◌, take}
+use Rattle.netlist_text.specs.Text.{each_from, register_text}
+use Rattle.netlist_text.proofs.lines.put_registers.Given as goal
+
+abbrev pub invariant-loop-k : goal.invariant-loop-k
+invariant-loop-k l = l.out.items ≡ l.initial.out.items ++ each_from register_text 0 (take l.k l.registers)
