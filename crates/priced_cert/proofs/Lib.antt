@@ -1,0 +1,15 @@
+pub mod PriceLemmas
+pub mod KindLemmas
+pub mod Taking
+pub mod Orders
+pub mod Merging
+pub mod Going
+pub mod Begins
+pub mod Stops
+pub mod OneCertificate
+pub mod TextLemmas
+pub mod Showing
+pub mod WeavingLemmas
+pub mod ReadingLemmas
+pub mod LoopLemmas
+pub mod FrontLemmas
