@@ -61,7 +61,7 @@ pub data Left (g : Setting) (callers : List Frame) (b : Stage) (back : List ℕ)
 
 -- ---- a stay
 
-module _ (g : Setting) (k : Known g) (t : Timing) (bound_of : BoundOf) where
+module _ (g : Setting) (k : Known g) (t : Timing) (bound_of : BoundOf) (Keep : ℕ → List ℕ → Type 0) where
   -- A stay of a frame of m over these callers, from a to b, over these nodes of m.
   pub record Account (callers : List Frame) (m : ℕ) (a b : Stage) (nodes : List ℕ) : Type 0 where
     pub node : ℕ
@@ -77,7 +77,7 @@ module _ (g : Setting) (k : Known g) (t : Timing) (bound_of : BoundOf) where
     pub within : All (IsPlaceWithin g m) looks
     pub left : Left g callers b back
     -- by a section inside, the nodes cost at least the former
-    pub inside : (value : Option ℕ) (s : SectionOf g k t bound_of true m value) → NodeIn g k t bound_of s (node_of a.state.mode top.frame) → taken ≤ cost_of_nodes s.meets.view.costs nodes
+    pub inside : (value : Option ℕ) (s : SectionOf g k t bound_of Keep true m value) → NodeIn g k t bound_of Keep s (node_of a.state.mode top.frame) → taken ≤ cost_of_nodes s.meets.view.costs nodes
     -- by a section of another kind, these are steps that it charges
-    pub outside : (value : Option ℕ) (s : SectionOf g k t bound_of false m value) → NodeIn g k t bound_of s (node_of a.state.mode top.frame)
-        → Stays (charges_of g k t bound_of s) a.machine.cache node further (taken + stall g k t looks a.machine.cache)
+    pub outside : (value : Option ℕ) (s : SectionOf g k t bound_of Keep false m value) → NodeIn g k t bound_of Keep s (node_of a.state.mode top.frame)
+        → Stays (charges_of g k t bound_of Keep s) a.machine.cache node further (taken + stall g k t looks a.machine.cache)

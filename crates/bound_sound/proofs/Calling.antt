@@ -33,7 +33,7 @@ use Rattle.bound_sound.proofs.Accounts.Left.{returned, dropped}
 use Rattle.bound_sound.proofs.Steps.{at_running, is_instruction, even_at, odd_at, is_raise_step, nodes_cost, below_own}
 use Rattle.bound_sound.proofs.Called.{Called, closes, Invoked, covers_call}
 
-module _ (g : Setting) (k : Known g) (t : Timing) (bound_of : BoundOf) where
+module _ (g : Setting) (k : Known g) (t : Timing) (bound_of : BoundOf) (Keep : ℕ → List ℕ → Type 0) where
   abbrev P : Program
   P = g.program
 
@@ -55,17 +55,17 @@ module _ (g : Setting) (k : Known g) (t : Timing) (bound_of : BoundOf) where
   back_within m c back (by_drop p raise e) = subst (λ (ls : List ℕ). All (IsPlaceWithin g m) ls) (sym e) (All-nil (IsPlaceWithin g m))
 
   module _ {callers : List Frame} {m : ℕ} {a b c d : Stage} {u : ℕ} {us vs : List ℕ} (top : IsTop callers m a u) (facts : StepFacts g t k.words a b) (h : Enters P a.state.mode top.frame callers b.state)
-      (child : Called g k t bound_of (h.waiting ∷ callers) h.top.method a b c vs) (x : Account g k t bound_of callers m c d us) (walk : LiveWalk P m (node_of a.state.mode top.frame) (u ∷ us)) where
+      (child : Called g k t bound_of Keep (h.waiting ∷ callers) h.top.method a b c vs) (x : Account g k t bound_of Keep callers m c d us) (walk : LiveWalk P m (node_of a.state.mode top.frame) (u ∷ us)) where
     abbrev p : ℕ
     p = top.frame.pc
 
-    abbrev y : Account g k t bound_of (h.waiting ∷ callers) h.top.method b c vs
+    abbrev y : Account g k t bound_of Keep (h.waiting ∷ callers) h.top.method b c vs
     y = child.account
 
     at_invoke : node_of a.state.mode top.frame ≡ At p
     at_invoke = at_running a top.frame h.running
 
-    invoked : Invoked g k t bound_of m p h.top.method
+    invoked : Invoked g k t bound_of Keep m p h.top.method
     invoked = record {
       start = subst (λ (z : ℕ). IsStartOf P z p) top.method (facts.start top.frame callers top.frames);
       call = subst (λ (z : ℕ). IsCall P z p) top.method h.call;
@@ -108,31 +108,31 @@ module _ (g : Setting) (k : Known g) (t : Timing) (bound_of : BoundOf) where
 
     -- ---- a section
 
-    module _ {inside : Bool} {value : Option ℕ} (s : SectionOf g k t bound_of inside m value) (reached : NodeIn g k t bound_of s (node_of a.state.mode top.frame)) where
-      here : NodeIn g k t bound_of s (At p)
-      here = subst (λ (n : Node). NodeIn g k t bound_of s n) at_invoke reached
+    module _ {inside : Bool} {value : Option ℕ} (s : SectionOf g k t bound_of Keep inside m value) (reached : NodeIn g k t bound_of Keep s (node_of a.state.mode top.frame)) where
+      here : NodeIn g k t bound_of Keep s (At p)
+      here = subst (λ (n : Node). NodeIn g k t bound_of Keep s n) at_invoke reached
 
-      next_in : NodeIn g k t bound_of s (node_of c.state.mode x.top.frame)
-      next_in = later_node g k t bound_of s (At p) (node_of c.state.mode x.top.frame) here edge
+      next_in : NodeIn g k t bound_of Keep s (node_of c.state.mode x.top.frame)
+      next_in = later_node g k t bound_of Keep s (At p) (node_of c.state.mode x.top.frame) here edge
 
       -- the method that was called ended, so the invoke is told a number of it
-      cost : TargetCost P t bound_of s.earlier (as_section g k t bound_of s) value s.meets p h.top.method
+      cost : TargetCost P t bound_of Keep s.earlier (as_section g k t bound_of Keep s) value s.meets p h.top.method
       cost =
-          target_cost P t bound_of s.earlier (as_section g k t bound_of s) value s.meets p h.top.method here invoked.call invoked.target
-          (told_some g k t bound_of s p h.top.method here invoked.call invoked.target invoked.ended)
+          target_cost P t bound_of Keep s.earlier (as_section g k t bound_of Keep s) value s.meets p h.top.method here invoked.call invoked.target
+          (told_some g k t bound_of Keep s p h.top.method here invoked.call invoked.target invoked.ended)
 
       cost_covers : facts.micro + cost.number ≤ slice_index s.meets.view.costs u
       cost_covers =
           let Q : ℕ → Type 0 = λ n. facts.micro + cost.number ≤ slice_index s.meets.view.costs n in
-          subst Q (sym (is_instruction top h.running)) (cost.covers facts.micro (below_own g k t bound_of top facts (At p) at_invoke))
+          subst Q (sym (is_instruction top h.running)) (cost.covers facts.micro (below_own g k t bound_of Keep top facts (At p) at_invoke))
 
     -- without look-ups, by a section inside
-    inside_covers : (value : Option ℕ) (s : SectionOf g k t bound_of true m value) → NodeIn g k t bound_of s (node_of a.state.mode top.frame) → facts.micro + y.taken + x.taken ≤ cost_of_nodes s.meets.view.costs (u ∷ us)
+    inside_covers : (value : Option ℕ) (s : SectionOf g k t bound_of Keep true m value) → NodeIn g k t bound_of Keep s (node_of a.state.mode top.frame) → facts.micro + y.taken + x.taken ≤ cost_of_nodes s.meets.view.costs (u ∷ us)
     inside_covers value s reached =
-        let without : is_without_loads (as_section g k t bound_of s) p ≡ true = ap (λ (z : Bool). z || is_in_region s.certified.loops (2 * p)) s.is_kind in
+        let without : is_without_loads (as_section g k t bound_of Keep s) p ≡ true = ap (λ (z : Bool). z || is_in_region s.certified.loops (2 * p)) s.is_kind in
         let number = (cost s reached).number in
-        let its = told_inside g k t bound_of s p h.top.method number (here s reached) invoked.call invoked.target without (cost s reached).told in
-        let few = closes g k t bound_of child number its in
+        let its = told_inside g k t bound_of Keep s p h.top.method number (here s reached) invoked.call invoked.target without (cost s reached).told in
+        let few = closes g k t bound_of Keep child number its in
         let covered = cost_covers s reached in
         let rest = x.inside value s (next_in s reached) in
         let e = nodes_cost s.meets.view.costs u us in
@@ -140,42 +140,42 @@ module _ (g : Setting) (k : Known g) (t : Timing) (bound_of : BoundOf) where
 
     -- ---- with look-ups, by a section of another kind
 
-    module _ {value : Option ℕ} (s : SectionOf g k t bound_of false m value) (reached : NodeIn g k t bound_of s (node_of a.state.mode top.frame)) where
-      covered : IsCovered (charges_of g k t bound_of s) u (facts.micro + y.taken) its_looks a.machine.cache
+    module _ {value : Option ℕ} (s : SectionOf g k t bound_of Keep false m value) (reached : NodeIn g k t bound_of Keep s (node_of a.state.mode top.frame)) where
+      covered : IsCovered (charges_of g k t bound_of Keep s) u (facts.micro + y.taken) its_looks a.machine.cache
       covered =
-          covers_call g k t bound_of child s p u (cost s reached).number facts.micro invoked (here s reached) (cost s reached).told (is_instruction top h.running) (cost_covers s reached)
-          ((charges_of g k t bound_of s).region_of u) refl
+          covers_call g k t bound_of Keep child s p u (cost s reached).number facts.micro invoked (here s reached) (cost s reached).told (is_instruction top h.running) (cost_covers s reached)
+          ((charges_of g k t bound_of Keep s).region_of u) refl
 
       rest_from : (ls : List ℕ) → its_looks ++ y.back ≡ ls
-          → Stays (charges_of g k t bound_of s) (after k.words ls a.machine.cache) x.node x.further (x.taken + stall g k t x.looks (after k.words ls a.machine.cache))
+          → Stays (charges_of g k t bound_of Keep s) (after k.words ls a.machine.cache) x.node x.further (x.taken + stall g k t x.looks (after k.words ls a.machine.cache))
       rest_from ls e =
           let same : c.machine.cache ≡ after k.words ls a.machine.cache = call_ran.cache ∙ ap (λ (z : List ℕ). after k.words z a.machine.cache) e in
-          let R : Cache → Type 0 = λ z. Stays (charges_of g k t bound_of s) z x.node x.further (x.taken + stall g k t x.looks z) in
+          let R : Cache → Type 0 = λ z. Stays (charges_of g k t bound_of Keep s) z x.node x.further (x.taken + stall g k t x.looks z) in
           subst R same (x.outside value s (next_in s reached))
 
       with_call : (ls : List ℕ) → its_looks ++ y.back ≡ ls
-          → Stays (charges_of g k t bound_of s) a.machine.cache u (x.node ∷ x.further) (facts.micro + y.taken + stall g k t ls a.machine.cache + (x.taken + stall g k t x.looks (after k.words ls a.machine.cache)))
-          → Stays (charges_of g k t bound_of s) a.machine.cache u us (facts.micro + y.taken + x.taken + stall g k t ((its_looks ++ y.back) ++ x.looks) a.machine.cache)
+          → Stays (charges_of g k t bound_of Keep s) a.machine.cache u (x.node ∷ x.further) (facts.micro + y.taken + stall g k t ls a.machine.cache + (x.taken + stall g k t x.looks (after k.words ls a.machine.cache)))
+          → Stays (charges_of g k t bound_of Keep s) a.machine.cache u us (facts.micro + y.taken + x.taken + stall g k t ((its_looks ++ y.back) ++ x.looks) a.machine.cache)
       with_call ls e stays =
           let split = k.stalls k.words t.read ls x.looks a.machine.cache in
           let listed : stall g k t ((its_looks ++ y.back) ++ x.looks) a.machine.cache ≡ stall g k t (ls ++ x.looks) a.machine.cache = ap (λ (z : List ℕ). stall g k t (z ++ x.looks) a.machine.cache) e in
-          let Q : ℕ → Type 0 = λ n. Stays (charges_of g k t bound_of s) a.machine.cache u us n in
-          let S : List ℕ → Type 0 = λ ns. Stays (charges_of g k t bound_of s) a.machine.cache u ns (facts.micro + y.taken + stall g k t ls a.machine.cache + (x.taken + stall g k t x.looks (after k.words ls a.machine.cache))) in
+          let Q : ℕ → Type 0 = λ n. Stays (charges_of g k t bound_of Keep s) a.machine.cache u us n in
+          let S : List ℕ → Type 0 = λ ns. Stays (charges_of g k t bound_of Keep s) a.machine.cache u ns (facts.micro + y.taken + stall g k t ls a.machine.cache + (x.taken + stall g k t x.looks (after k.words ls a.machine.cache))) in
           subst Q (omega arith) (subst S (sym x.nodes_are) stays)
 
       -- Where the called frame was dropped, its caller isn't looked up: the load that the invoke's cost has for it is left for the raise step, at which the caller's handler is entered.
-      outside_covers : CameBack m c y.back → Stays (charges_of g k t bound_of s) a.machine.cache u us (facts.micro + y.taken + x.taken + stall g k t ((its_looks ++ y.back) ++ x.looks) a.machine.cache)
+      outside_covers : CameBack m c y.back → Stays (charges_of g k t bound_of Keep s) a.machine.cache u us (facts.micro + y.taken + x.taken + stall g k t ((its_looks ++ y.back) ++ x.looks) a.machine.cache)
       outside_covers (by_return run e) =
           let ls : its_looks ++ y.back ≡ its_looks ++ key m ∷ [] = ap (λ (z : List ℕ). its_looks ++ z) e in
           with_call (its_looks ++ key m ∷ []) ls (returns (facts.micro + y.taken) its_looks (even_at top h.running) (even_at x.top run) covered (rest_from (its_looks ++ key m ∷ []) ls))
       outside_covers (by_drop q raise e) =
           let ls : its_looks ++ y.back ≡ its_looks = ap (λ (z : List ℕ). its_looks ++ z) e ∙ append-nil its_looks in
           let none =
-          enters_none_at g k t bound_of s (At p) (node_of c.state.mode x.top.frame) u x.node x.top.frame.pc (is_instruction top h.running) x.top.node (is_raise_step x.top q raise) (here s reached) edge
+          enters_none_at g k t bound_of Keep s (At p) (node_of c.state.mode x.top.frame) u x.node x.top.frame.pc (is_instruction top h.running) x.top.node (is_raise_step x.top q raise) (here s reached) edge
           in
           with_call its_looks ls (drops (facts.micro + y.taken) its_looks (even_at top h.running) (odd_at x.top q raise) none covered (rest_from its_looks ls))
 
-    pub calling : Account g k t bound_of callers m a d (u ∷ us)
+    pub calling : Account g k t bound_of Keep callers m a d (u ∷ us)
     calling = record {
       node = u;
       further = us;

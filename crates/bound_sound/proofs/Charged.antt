@@ -24,8 +24,9 @@ use Rattle.method_flow.specs.Regions.{IsWithinNodes, code_words, load, loads}
 use Rattle.method_flow.specs.Regions.IsWithinNodes.{itself}
 use Rattle.bound_rules.specs.Fitting.{LoopFits, loads_of}
 use Rattle.bound_rules.specs.Told.{Valued}
-use Rattle.bound_rules.specs.Sections.{IsEntryLoad, section_bounds, MeetsSection}
+use Rattle.bound_rules.specs.Sections.{IsEntryLoad, section_bounds}
 use Rattle.bound_rules.specs.Sections.IsEntryLoad.{no_region, fits, exceeds}
+use Rattle.bound_sound.proofs.Supported.{IsSupported}
 use Rattle.bound_sound.proofs.Regions.{region_from, IsRegionAt, found_region, some_region, priced_loop, lists_by, list_at}
 
 -- ---- methods by their places
@@ -64,7 +65,7 @@ pub record SectionLaws : Type 0 where
   pub edges : EdgesPayLoads
 
 module _ (laws : SectionLaws) (P : Program) (t : Timing) (words : ℕ → List ℕ) (key : ℕ → ℕ) (keyed : (m : ℕ) → IsSome (body_of P m) → length (words (key m)) ≡ code_words P m)
-    (bound_of : BoundOf) (earlier : List Valued) (s : CertSection) (value : Option ℕ) (h : MeetsSection P t bound_of earlier s value) (coded : (x : ℕ) (nodes : List ℕ) → IsWithinNodes P s.method nodes x → IsSome (body_of P x)) where
+    (bound_of : BoundOf) (Keep : ℕ → List ℕ → Type 0) (earlier : List Valued) (s : CertSection) (value : Option ℕ) (h : IsSupported P t bound_of Keep earlier s value) (coded : (x : ℕ) (nodes : List ℕ) → IsWithinNodes P s.method nodes x → IsSome (body_of P x)) where
   -- loop i's fee
   abbrev FeeAt : ℕ → CertifiedLoop → Type 0
   FeeAt i l = IsEntryLoad P t s.method l (slice_index_or h.view.fees i None)
@@ -104,7 +105,7 @@ module _ (laws : SectionLaws) (P : Program) (t : Timing) (words : ℕ → List �
       by o e (exceeds region not is, same) =
           let long = h.view.are_fees.long in
           let b = at.0 in
-          absurd (h.accepted.placed l.header (heads_faulty (record { place = i; headed = l; at = at; header = refl; faulty = does_not_fit region (omega arith, is) })))
+          absurd (h.placed l.header (heads_faulty (record { place = i; headed = l; at = at; header = refl; faulty = does_not_fit region (omega arith, is) })))
 
   pub region_at : (i u : ℕ) → charges.region_of u ≡ Some i → IsRegionAt s.section.loops u i
   region_at i u e = let r = found_region s.section.loops 0 u i e in let Q : ℕ → Type 0 = λ k. IsRegionAt s.section.loops u k in let same = r.1 in subst Q (omega arith) r.2
@@ -114,7 +115,7 @@ module _ (laws : SectionLaws) (P : Program) (t : Timing) (words : ℕ → List �
   region_of_is i u here =
       let some = some_region s.section.loops 0 u i here in
       let other = region_at some.0 u some.1 in
-      let same = laws.apart h.view.graph s.section (section_bounds bound_of s) h.view.fees h.accepted.placed i some.0 here.loop other.loop here.at other.at here.region other.region u here.inside other.inside in
+      let same = laws.apart h.view.graph s.section (section_bounds bound_of s) h.view.fees h.placed i some.0 here.loop other.loop here.at other.at here.region other.region u here.inside other.inside in
       some.1 ∙ ap (λ (x : ℕ). Some x) (sym same)
 
   bounds_long : length (section_bounds bound_of s) ≡ length s.section.loops

@@ -11,7 +11,8 @@ use Rattle.method_flow.specs.declared.timing.Timing.{Timing}
 use Rattle.method_flow.specs.Costs.{IsOwnCost}
 use Rattle.bound_rules.specs.Costs.{greater, greatest_of}
 use Rattle.bound_rules.specs.Told.{Valued, most_cycles, within_limit, with_cycles}
-use Rattle.bound_rules.specs.Sections.{IsSectionNode, MeetsSection}
+use Rattle.bound_rules.specs.Sections.{IsSectionNode}
+use Rattle.bound_sound.proofs.Supported.{IsSupported}
 
 -- ---- the greatest of the targets' values
 
@@ -78,7 +79,7 @@ number_without more (Some (Some v)) n e = let same : v + more ≡ n = cc in (v, 
 
 -- ---- the costs of nodes
 
-module _ (P : Program) (t : Timing) (bound_of : BoundOf) (earlier : List Valued) (s : CertSection) (value : Option ℕ) (h : MeetsSection P t bound_of earlier s value) where
+module _ (P : Program) (t : Timing) (bound_of : BoundOf) (Keep : ℕ → List ℕ → Type 0) (earlier : List Valued) (s : CertSection) (value : Option ℕ) (h : IsSupported P t bound_of Keep earlier s value) where
   -- so many cycles are at most each own cost of a node
   abbrev pub IsBelowOwn : Node → (micro : ℕ) → Type 0
   IsBelowOwn u micro = (c : ℕ) → IsOwnCost P t s.method u c → micro ≤ c

@@ -12,7 +12,7 @@ use Rattle.method_flow.specs.Regions.{IsWithin, IsWithinNodes, code_words}
 use Rattle.method_flow.specs.Regions.IsWithin.{calls}
 use Rattle.method_flow.specs.Regions.IsWithinNodes.{itself as is_itself, calls as is_called}
 use Rattle.method_flow.specs.Walks.{EndingIsAWalk}
-use Rattle.bound_rules.specs.Laws.{SectionsAreFound, HeadersHaveBounds, NoValueNoEnd, LiveEdgesStay, SectionsBoundWalks, MethodsHaveCode}
+use Rattle.bound_rules.specs.Laws.{MethodsHaveCode}
 use Rattle.activations.specs.Setting.{Setting, IsSetting}
 use Rattle.activations.specs.Steps.{AreWords, StepsAreTold}
 use Rattle.activations.specs.Trees.{StaysAreWalks}
@@ -40,11 +40,6 @@ pub record Known (g : Setting) : Type 0 where
   pub ending : EndingIsAWalk
   -- sections
   pub section_laws : SectionLaws
-  pub found : SectionsAreFound
-  pub headers : HeadersHaveBounds
-  pub no_end : NoValueNoEnd
-  pub edges : LiveEdgesStay
-  pub bounded : SectionsBoundWalks
   pub coded : MethodsHaveCode
 
 -- ---- methods with code

@@ -12,6 +12,7 @@ mod Moving
 mod Calling
 mod Accounting
 mod Sound
+mod Supported
 mod Paying
 mod OwnSteps
 mod Among

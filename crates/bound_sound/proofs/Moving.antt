@@ -25,7 +25,7 @@ use Rattle.bound_sound.proofs.Accounts.{stall, then_ran, relisted, step_ran, IsP
 use Rattle.bound_sound.proofs.Accounts.Left.{returned, dropped}
 use Rattle.bound_sound.proofs.Steps.{even_at, odd_at, is_raise_step, nodes_cost, step_covers}
 
-module _ (g : Setting) (k : Known g) (t : Timing) (bound_of : BoundOf) where
+module _ (g : Setting) (k : Known g) (t : Timing) (bound_of : BoundOf) (Keep : ℕ → List ℕ → Type 0) where
   abbrev P : Program
   P = g.program
 
@@ -36,7 +36,7 @@ module _ (g : Setting) (k : Known g) (t : Timing) (bound_of : BoundOf) where
 
   -- what is looked up where the frame is left is left out of its account
   pub leaving : (callers : List Frame) (m : ℕ) (a b : Stage) (u : ℕ) (top : IsTop callers m a u) → StepFacts g t k.words a b → Returns P a.state.mode top.frame callers b.state ⊎ Drops P a.state.mode top.frame callers b.state
-      → Account g k t bound_of callers m a b (u ∷ [])
+      → Account g k t bound_of Keep callers m a b (u ∷ [])
   leaving callers m a b u top facts h = record {
     node = u;
     further = [];
@@ -52,46 +52,46 @@ module _ (g : Setting) (k : Known g) (t : Timing) (bound_of : BoundOf) where
       | inl ret ↦ returned ret.caller ret.others ret.callers_are ret.still (returns_looks g a b top.frame callers top.frames ret)
       | inr drop ↦ dropped drop.object drop.still (drops_looks g a b top.frame callers top.frames drop)
     ];
-    inside = λ value s reached. let few = step_covers g k t bound_of top facts s reached in let e = nodes_cost s.meets.view.costs u [] in omega arith;
+    inside = λ value s reached. let few = step_covers g k t bound_of Keep top facts s reached in let e = nodes_cost s.meets.view.costs u [] in omega arith;
     outside = λ value s reached.
-        let Q : ℕ → Type 0 = λ n. Stays (charges_of g k t bound_of s) a.machine.cache u [] n in
-        subst Q (omega arith) (last facts.micro (step_covers g k t bound_of top facts s reached));
+        let Q : ℕ → Type 0 = λ n. Stays (charges_of g k t bound_of Keep s) a.machine.cache u [] n in
+        subst Q (omega arith) (last facts.micro (step_covers g k t bound_of Keep top facts s reached));
   }
 
   -- ---- a step within the method
 
-  module _ {callers : List Frame} {m : ℕ} {a b c : Stage} {u : ℕ} {us : List ℕ} (top : IsTop callers m a u) (facts : StepFacts g t k.words a b) (x : Account g k t bound_of callers m b c us)
+  module _ {callers : List Frame} {m : ℕ} {a b c : Stage} {u : ℕ} {us : List ℕ} (top : IsTop callers m a u) (facts : StepFacts g t k.words a b) (x : Account g k t bound_of Keep callers m b c us)
       (walk : LiveWalk P m (node_of a.state.mode top.frame) (u ∷ us)) (kind : MoveKind g a b top.frame callers top.frames) where
     edge : IsLiveEdge P m (node_of a.state.mode top.frame) (node_of b.state.mode x.top.frame)
     edge =
         let Q : List ℕ → Type 0 = λ ns. LiveWalk P m (node_of a.state.mode top.frame) (u ∷ ns) in
         second_edge (node_of a.state.mode top.frame) (node_of b.state.mode x.top.frame) u x.node x.further (subst Q x.nodes_are walk) x.top.node
 
-    next_in : {inside : Bool} {value : Option ℕ} (s : SectionOf g k t bound_of inside m value) → NodeIn g k t bound_of s (node_of a.state.mode top.frame) → NodeIn g k t bound_of s (node_of b.state.mode x.top.frame)
-    next_in s reached = later_node g k t bound_of s (node_of a.state.mode top.frame) (node_of b.state.mode x.top.frame) reached edge
+    next_in : {inside : Bool} {value : Option ℕ} (s : SectionOf g k t bound_of Keep inside m value) → NodeIn g k t bound_of Keep s (node_of a.state.mode top.frame) → NodeIn g k t bound_of Keep s (node_of b.state.mode x.top.frame)
+    next_in s reached = later_node g k t bound_of Keep s (node_of a.state.mode top.frame) (node_of b.state.mode x.top.frame) reached edge
 
-    module _ {value : Option ℕ} (s : SectionOf g k t bound_of false m value) (reached : NodeIn g k t bound_of s (node_of a.state.mode top.frame)) where
+    module _ {value : Option ℕ} (s : SectionOf g k t bound_of Keep false m value) (reached : NodeIn g k t bound_of Keep s (node_of a.state.mode top.frame)) where
       -- the rest of the stay, from the cache that the step's look-up leaves
       rest_from : (ls : List ℕ) → looked_up g a b ≡ ls
-          → Stays (charges_of g k t bound_of s) (after k.words ls a.machine.cache) x.node x.further (x.taken + stall g k t x.looks (after k.words ls a.machine.cache))
+          → Stays (charges_of g k t bound_of Keep s) (after k.words ls a.machine.cache) x.node x.further (x.taken + stall g k t x.looks (after k.words ls a.machine.cache))
       rest_from ls e =
           let same : b.machine.cache ≡ after k.words ls a.machine.cache = facts.cache ∙ ap (λ (z : List ℕ). after k.words z a.machine.cache) e in
-          let R : Cache → Type 0 = λ d. Stays (charges_of g k t bound_of s) d x.node x.further (x.taken + stall g k t x.looks d) in
+          let R : Cache → Type 0 = λ d. Stays (charges_of g k t bound_of Keep s) d x.node x.further (x.taken + stall g k t x.looks d) in
           subst R same (x.outside value s (next_in s reached))
 
       -- with the step before it
       with_step : (ls : List ℕ) → looked_up g a b ≡ ls
-          → Stays (charges_of g k t bound_of s) a.machine.cache u (x.node ∷ x.further) (facts.micro + stall g k t ls a.machine.cache + (x.taken + stall g k t x.looks (after k.words ls a.machine.cache)))
-          → Stays (charges_of g k t bound_of s) a.machine.cache u us (facts.micro + x.taken + stall g k t (looked_up g a b ++ x.looks) a.machine.cache)
+          → Stays (charges_of g k t bound_of Keep s) a.machine.cache u (x.node ∷ x.further) (facts.micro + stall g k t ls a.machine.cache + (x.taken + stall g k t x.looks (after k.words ls a.machine.cache)))
+          → Stays (charges_of g k t bound_of Keep s) a.machine.cache u us (facts.micro + x.taken + stall g k t (looked_up g a b ++ x.looks) a.machine.cache)
       with_step ls e stays =
           let split = k.stalls k.words t.read ls x.looks a.machine.cache in
           let listed : stall g k t (looked_up g a b ++ x.looks) a.machine.cache ≡ stall g k t (ls ++ x.looks) a.machine.cache = ap (λ (z : List ℕ). stall g k t (z ++ x.looks) a.machine.cache) e in
-          let Q : ℕ → Type 0 = λ n. Stays (charges_of g k t bound_of s) a.machine.cache u us n in
-          let S : List ℕ → Type 0 = λ vs. Stays (charges_of g k t bound_of s) a.machine.cache u vs (facts.micro + stall g k t ls a.machine.cache + (x.taken + stall g k t x.looks (after k.words ls a.machine.cache))) in
+          let Q : ℕ → Type 0 = λ n. Stays (charges_of g k t bound_of Keep s) a.machine.cache u us n in
+          let S : List ℕ → Type 0 = λ vs. Stays (charges_of g k t bound_of Keep s) a.machine.cache u vs (facts.micro + stall g k t ls a.machine.cache + (x.taken + stall g k t x.looks (after k.words ls a.machine.cache))) in
           subst Q (omega arith) (subst S (sym x.nodes_are) stays)
 
       few : facts.micro ≤ slice_index s.meets.view.costs u
-      few = step_covers g k t bound_of top facts s reached
+      few = step_covers g k t bound_of Keep top facts s reached
 
       without_look : (n : ℕ) → n + (x.taken + stall g k t x.looks a.machine.cache) ≡ n + stall g k t [] a.machine.cache + (x.taken + stall g k t x.looks a.machine.cache)
       without_look n = omega arith
@@ -99,14 +99,14 @@ module _ (g : Setting) (k : Known g) (t : Timing) (bound_of : BoundOf) where
       -- An instruction that goes on; one that raises by itself while its method is in the cache, as an invoke may that is told that none of its targets ends;
       -- or a raise step that comes to a handler, which may be the header of a region, also
       -- of the region that the raise step has just left: the edge to it pays the fee anew.
-      stays_on : MoveKind g a b top.frame callers top.frames → Stays (charges_of g k t bound_of s) a.machine.cache u us (facts.micro + x.taken + stall g k t (looked_up g a b ++ x.looks) a.machine.cache)
+      stays_on : MoveKind g a b top.frame callers top.frames → Stays (charges_of g k t bound_of Keep s) a.machine.cache u us (facts.micro + x.taken + stall g k t (looked_up g a b ++ x.looks) a.machine.cache)
       stays_on (plain was is e) =
-          let Q : ℕ → Type 0 = λ n. Stays (charges_of g k t bound_of s) a.machine.cache u (x.node ∷ x.further) n in
+          let Q : ℕ → Type 0 = λ n. Stays (charges_of g k t bound_of Keep s) a.machine.cache u (x.node ∷ x.further) n in
           with_step [] e (subst Q (without_look facts.micro) (goes facts.micro (even_at top was) (even_at x.top is) few (rest_from [] e)))
       stays_on (raising p was is e) =
           let cached : is_cached (key m) a.machine.cache ≡ true = subst (λ (z : ℕ). is_cached (key z) a.machine.cache ≡ true) top.method (facts.cached top.frame callers top.frames was) in
-          let none = enters_none_at g k t bound_of s (node_of a.state.mode top.frame) (node_of b.state.mode x.top.frame) u x.node x.top.frame.pc top.node x.top.node (is_raise_step x.top p is) reached edge in
-          let Q : ℕ → Type 0 = λ n. Stays (charges_of g k t bound_of s) a.machine.cache u (x.node ∷ x.further) n in
+          let none = enters_none_at g k t bound_of Keep s (node_of a.state.mode top.frame) (node_of b.state.mode x.top.frame) u x.node x.top.frame.pc top.node x.top.node (is_raise_step x.top p is) reached edge in
+          let Q : ℕ → Type 0 = λ n. Stays (charges_of g k t bound_of Keep s) a.machine.cache u (x.node ∷ x.further) n in
           with_step [] e (subst Q (without_look facts.micro) (raises facts.micro (even_at top was) (odd_at x.top p is) none few cached (rest_from [] e)))
       stays_on (handling p was is e) =
           let own : looked_up g a b ≡ key m ∷ [] = e ∙ ap (λ (z : ℕ). key z ∷ []) top.method in
@@ -119,7 +119,7 @@ module _ (g : Setting) (k : Known g) (t : Timing) (bound_of : BoundOf) where
     look_within (handling p was is e) =
         subst (λ (ls : List ℕ). All (IsPlaceWithin g m) ls) (sym e) (All-cons (IsPlaceWithin g m) (key top.frame.method) [] (m, itself, ap key top.method) (All-nil (IsPlaceWithin g m)))
 
-    moved : Account g k t bound_of callers m a c (u ∷ us)
+    moved : Account g k t bound_of Keep callers m a c (u ∷ us)
     moved =
         let ls = looked_up g a b in
         record {
@@ -137,7 +137,7 @@ module _ (g : Setting) (k : Known g) (t : Timing) (bound_of : BoundOf) where
           within = All-append (IsPlaceWithin g m) ls x.looks (look_within kind) x.within;
           left = x.left;
           inside = λ value s reached.
-              let few = step_covers g k t bound_of top facts s reached in
+              let few = step_covers g k t bound_of Keep top facts s reached in
               let rest = x.inside value s (next_in s reached) in
               let e = nodes_cost s.meets.view.costs u us in
               omega arith;
@@ -145,5 +145,5 @@ module _ (g : Setting) (k : Known g) (t : Timing) (bound_of : BoundOf) where
         }
 
   pub moving : {callers : List Frame} {m : ℕ} {a b c : Stage} {u : ℕ} {us : List ℕ} (top : IsTop callers m a u) (facts : StepFacts g t k.words a b) → Moves P a.state.mode top.frame callers b.state
-      → LiveWalk P m (node_of a.state.mode top.frame) (u ∷ us) → Account g k t bound_of callers m b c us → Account g k t bound_of callers m a c (u ∷ us)
+      → LiveWalk P m (node_of a.state.mode top.frame) (u ∷ us) → Account g k t bound_of Keep callers m b c us → Account g k t bound_of Keep callers m a c (u ∷ us)
   moving {callers} {m} {a} {b} {c} {u} {us} top facts h walk x = moved top facts x walk (move_kind g a b top.frame callers top.frames h facts.going)

@@ -1,4 +1,4 @@
--- Sections of a method that meet their conditions, by what the values say.
+-- Supported sections of a method, by what the values say.
 use Rattle.std.proofs.Common.{◌≡◌, ℕ, ◌+◌, ◌*◌, ◌≤◌, Bool, true, false, List, ◌∷◌, Option, Some, None, IsSome, refl, sym, ◌∙◌, subst, inl, inr, arith}
 use Rattle.section_check.specs.Bounded.{cost_of}
 use Rattle.section_check.specs.Section.{Certified}
@@ -20,39 +20,39 @@ use Rattle.method_flow.specs.Regions.{IsWithinNodes, load}
 use Rattle.bound_rules.specs.Fitting.{loads_of}
 use Rattle.bound_rules.specs.Told.{Valued, value_in, SaysFull, SaysCalled, is_without_loads}
 use Rattle.bound_rules.specs.Told.SaysFull.{fits, exceeds}
-use Rattle.bound_rules.specs.Sections.{IsSectionEdge, IsSectionNode, section_bounds, MeetsSection}
-use Rattle.bound_rules.specs.Met.{AreMet}
+use Rattle.bound_rules.specs.Sections.{IsSectionEdge, IsSectionNode, section_bounds}
 use Rattle.activations.specs.Setting.{Setting}
+use Rattle.bound_sound.proofs.Supported.{IsSupported, AreSupported, section_of}
 use Rattle.bound_sound.proofs.Known.{Known, keyed, nodes_coded}
 use Rattle.bound_sound.proofs.Charged.{charges, region_at, region_of_is, are_charged, all_charged}
 use Rattle.bound_sound.proofs.Inside.{never_said, never_without, number_said, number_without}
 
-module _ (g : Setting) (k : Known g) (t : Timing) (bound_of : BoundOf) where
+module _ (g : Setting) (k : Known g) (t : Timing) (bound_of : BoundOf) (Keep : ℕ → List ℕ → Type 0) where
   abbrev P : Program
   P = g.program
 
-  -- a section of the method, inside or of another kind, that has this value, behind others that meet their conditions
+  -- a section of the method, inside or of another kind, that has this value, behind others that are supported
   pub record SectionOf (inside : Bool) (m : ℕ) (value : Option ℕ) : Type 0 where
     pub earlier : List Valued
-    pub met : AreMet P t bound_of earlier
+    pub met : AreSupported P t bound_of Keep earlier
     pub kind : SectionKind
     pub is_kind : is_inside kind ≡ inside
     pub certified : Certified
-    pub meets : MeetsSection P t bound_of earlier (record { kind = kind; method = m; section = certified }) value
+    pub meets : IsSupported P t bound_of Keep earlier (record { kind = kind; method = m; section = certified }) value
 
   abbrev pub as_section : {inside : Bool} {m : ℕ} {value : Option ℕ} → SectionOf inside m value → CertSection
   as_section {inside} {m} {value} s = record { kind = s.kind; method = m; section = s.certified }
 
-  pub find : (earlier : List Valued) → AreMet P t bound_of earlier → (inside : Bool) (m : ℕ) (value : Option ℕ) → value_in inside m earlier ≡ Some value → SectionOf inside m value
+  pub find : (earlier : List Valued) → AreSupported P t bound_of Keep earlier → (inside : Bool) (m : ℕ) (value : Option ℕ) → value_in inside m earlier ≡ Some value → SectionOf inside m value
   find earlier met inside m value e =
-      let f = k.found P t bound_of earlier met inside m value e in
+      let f = section_of met inside m value e in
       record {
         earlier = f.earlier;
-        met = f.met;
+        met = f.supported;
         kind = f.section.kind;
         is_kind = f.kind;
         certified = f.section.section;
-        meets = subst (λ (y : ℕ). MeetsSection P t bound_of f.earlier (record { kind = f.section.kind; method = y; section = f.section.section }) value) f.method f.meets;
+        meets = subst (λ (y : ℕ). IsSupported P t bound_of Keep f.earlier (record { kind = f.section.kind; method = y; section = f.section.section }) value) f.method f.meets;
       }
 
   -- ---- the nodes of a section
@@ -61,21 +61,21 @@ module _ (g : Setting) (k : Known g) (t : Timing) (bound_of : BoundOf) where
   NodeIn {inside} {m} {value} s u = IsSectionNode P m s.meets.view.told u
 
   pub section_edge : {inside : Bool} {m : ℕ} {value : Option ℕ} (s : SectionOf inside m value) (u v : Node) → NodeIn s u → IsLiveEdge P m u v → IsSectionEdge P m s.meets.view.told u v
-  section_edge {inside} {m} {value} s u v reached e = k.edges P t bound_of s.earlier (as_section s) value s.met s.meets u v reached e
+  section_edge {inside} {m} {value} s u v reached e = s.meets.edges u v reached e
 
   pub later_node : {inside : Bool} {m : ℕ} {value : Option ℕ} (s : SectionOf inside m value) (u v : Node) → NodeIn s u → IsLiveEdge P m u v → NodeIn s v
   later_node s u v reached e = later reached (section_edge s u v reached e)
 
   -- ---- a target that can end is not told that it never does
 
-  none_found : (earlier : List Valued) → AreMet P t bound_of earlier → (inside : Bool) (x : ℕ) → CanEnd P x → value_in inside x earlier ≡ Some None → ⊥
-  none_found earlier met inside x ended none = let s = find earlier met inside x None none in k.no_end P t bound_of s.earlier (as_section s) s.met s.meets ended
+  none_found : (earlier : List Valued) → AreSupported P t bound_of Keep earlier → (inside : Bool) (x : ℕ) → CanEnd P x → value_in inside x earlier ≡ Some None → ⊥
+  none_found earlier met inside x ended none = let s = find earlier met inside x None none in s.meets.ends refl ended
 
-  pub full_some : (earlier : List Valued) → AreMet P t bound_of earlier → (x : ℕ) (said : Option (Option ℕ)) → SaysFull P t earlier x said → CanEnd P x → said ≡ Some None → ⊥
+  pub full_some : (earlier : List Valued) → AreSupported P t bound_of Keep earlier → (x : ℕ) (said : Option (Option ℕ)) → SaysFull P t earlier x said → CanEnd P x → said ≡ Some None → ⊥
   full_some earlier met x said (fits together is) ended none = none_found earlier met true x ended (never_without (loads_of together) (value_in true x earlier) (sym is ∙ none))
   full_some earlier met x said (exceeds not is) ended none = none_found earlier met false x ended (never_without (load P t.read x) (value_in false x earlier) (sym is ∙ none))
 
-  called_some : (earlier : List Valued) → AreMet P t bound_of earlier → (without_loads : Bool) (m x : ℕ) (said : Option (Option ℕ)) → SaysCalled P t earlier without_loads m x said → CanEnd P x → said ≡ Some None → ⊥
+  called_some : (earlier : List Valued) → AreSupported P t bound_of Keep earlier → (without_loads : Bool) (m x : ℕ) (said : Option (Option ℕ)) → SaysCalled P t earlier without_loads m x said → CanEnd P x → said ≡ Some None → ⊥
   called_some earlier met true m x said says ended none = none_found earlier met true x ended (sym says ∙ none)
   called_some earlier met false m x said (full, says, is) ended none = full_some earlier met x full says ended (never_without (load P t.read m) full (sym is ∙ none))
 
@@ -111,23 +111,23 @@ module _ (g : Setting) (k : Known g) (t : Timing) (bound_of : BoundOf) where
 
   abbrev pub charges_of : {inside : Bool} {m : ℕ} {value : Option ℕ} → SectionOf inside m value → Charges
   charges_of {inside} {m} {value} s =
-      charges k.section_laws P t k.words (λ x. g.places.method x) (keyed g k) bound_of s.earlier (as_section s) value s.meets (λ x nodes within. nodes_coded g k m x nodes s.meets.view.coded within)
+      charges k.section_laws P t k.words (λ x. g.places.method x) (keyed g k) bound_of Keep s.earlier (as_section s) value s.meets (λ x nodes within. nodes_coded g k m x nodes s.meets.view.coded within)
 
   -- An edge to a raise step enters no region: it would come to the region's header, and that is an instruction.
   pub enters_none : {inside : Bool} {m : ℕ} {value : Option ℕ} (s : SectionOf inside m value) (u v : Node) (q : ℕ) → number_of v ≡ 2 * q + 1 → NodeIn s u → IsLiveEdge P m u v
       → EntersNone (charges_of s) (number_of u) (number_of v)
   enters_none {inside} {m} {value} s u v q odd reached e l at =
       let coded : (x : ℕ) (nodes : List ℕ) → IsWithinNodes P m nodes x → IsSome (body_of P x) = λ x nodes within. nodes_coded g k m x nodes s.meets.view.coded within in
-      let r = region_at k.section_laws P t k.words (λ x. g.places.method x) (keyed g k) bound_of s.earlier (as_section s) value s.meets coded l (number_of v) at in
+      let r = region_at k.section_laws P t k.words (λ x. g.places.method x) (keyed g k) bound_of Keep s.earlier (as_section s) value s.meets coded l (number_of v) at in
       let edge = (s.meets.view.is_graph.edges (number_of u) (number_of v)).1 (record { source = u; target = v; reached = reached; edge = section_edge s u v reached e; numbered = (refl, refl) }) in
       elim (has_or_not r.loop.members (number_of u)) [
         | inl held ↦
-            region_of_is k.section_laws P t k.words (λ x. g.places.method x) (keyed g k) bound_of s.earlier (as_section s) value s.meets coded l (number_of u)
+            region_of_is k.section_laws P t k.words (λ x. g.places.method x) (keyed g k) bound_of Keep s.earlier (as_section s) value s.meets coded l (number_of u)
             (record { loop = r.loop; at = r.at; region = r.region; inside = held })
         | inr not_held ↦
-            let even = (k.headers P t bound_of s.earlier (as_section s) value s.meets l r.loop r.at).1 in
+            let even = (s.meets.headers l r.loop r.at).1 in
             let at_header =
-            k.section_laws.entered s.meets.view.graph s.certified (section_bounds bound_of (as_section s)) s.meets.view.fees s.meets.accepted.placed r.loop (number_of u) (number_of v)
+            k.section_laws.entered s.meets.view.graph s.certified (section_bounds bound_of (as_section s)) s.meets.view.fees s.meets.placed r.loop (number_of u) (number_of v)
             (l, r.at.0, r.at.1) edge r.inside not_held
             in
             absurd (omega arith)
@@ -144,9 +144,9 @@ module _ (g : Setting) (k : Known g) (t : Timing) (bound_of : BoundOf) where
 
   pub charged : {inside : Bool} {m : ℕ} {value : Option ℕ} (s : SectionOf inside m value) → AreCharged (charges_of s)
   charged {inside} {m} {value} s =
-      are_charged k.section_laws P t k.words (λ x. g.places.method x) (keyed g k) bound_of s.earlier (as_section s) value s.meets (λ x nodes within. nodes_coded g k m x nodes s.meets.view.coded within)
+      are_charged k.section_laws P t k.words (λ x. g.places.method x) (keyed g k) bound_of Keep s.earlier (as_section s) value s.meets (λ x nodes within. nodes_coded g k m x nodes s.meets.view.coded within)
 
   pub charged_at_most : {inside : Bool} {m : ℕ} {value : Option ℕ} (s : SectionOf inside m value) (u : ℕ) (vs : List ℕ)
       → start_fee (charges_of s) ((charges_of s).region_of u) + charge_of (charges_of s) u vs ≤ cost_of s.meets.view.costs (loops_of s.certified (section_bounds bound_of (as_section s)) s.meets.view.fees) (u ∷ vs)
   charged_at_most {inside} {m} {value} s u vs =
-      all_charged k.section_laws P t k.words (λ x. g.places.method x) (keyed g k) bound_of s.earlier (as_section s) value s.meets (λ x nodes within. nodes_coded g k m x nodes s.meets.view.coded within) u vs
+      all_charged k.section_laws P t k.words (λ x. g.places.method x) (keyed g k) bound_of Keep s.earlier (as_section s) value s.meets (λ x nodes within. nodes_coded g k m x nodes s.meets.view.coded within) u vs

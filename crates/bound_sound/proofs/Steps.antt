@@ -52,7 +52,7 @@ module _ {callers : List Frame} {m : ℕ} {a : Stage} {u : ℕ} (top : IsTop cal
 pub nodes_cost : (costs : List ℕ) (u : ℕ) (us : List ℕ) → cost_of_nodes costs (u ∷ us) ≡ slice_index costs u + cost_of_nodes costs us
 nodes_cost costs u us = sum_by-cons (λ (x : ℕ). slice_index costs x) u us
 
-module _ (g : Setting) (k : Known g) (t : Timing) (bound_of : BoundOf) where
+module _ (g : Setting) (k : Known g) (t : Timing) (bound_of : BoundOf) (Keep : ℕ → List ℕ → Type 0) where
   -- a step's own cycles are at most each own cost of the node
   pub below_own : {callers : List Frame} {m : ℕ} {a b : Stage} {u : ℕ} (top : IsTop callers m a u) (facts : StepFacts g t k.words a b) (n : Node) → node_of a.state.mode top.frame ≡ n
       → (c : ℕ) → IsOwnCost g.program t m n c → facts.micro ≤ c
@@ -61,9 +61,9 @@ module _ (g : Setting) (k : Known g) (t : Timing) (bound_of : BoundOf) where
       facts.costs top.frame callers c top.frames (subst (λ (x : Node). IsOwnCost g.program t top.frame.method x c) (sym is) at_frame)
 
   -- the cost of the node covers them
-  pub step_covers : {inside : Bool} {callers : List Frame} {m : ℕ} {a b : Stage} {u : ℕ} {value : Option ℕ} (top : IsTop callers m a u) (facts : StepFacts g t k.words a b) (s : SectionOf g k t bound_of inside m value)
-      → NodeIn g k t bound_of s (node_of a.state.mode top.frame) → facts.micro ≤ slice_index s.meets.view.costs u
+  pub step_covers : {inside : Bool} {callers : List Frame} {m : ℕ} {a b : Stage} {u : ℕ} {value : Option ℕ} (top : IsTop callers m a u) (facts : StepFacts g t k.words a b) (s : SectionOf g k t bound_of Keep inside m value)
+      → NodeIn g k t bound_of Keep s (node_of a.state.mode top.frame) → facts.micro ≤ slice_index s.meets.view.costs u
   step_covers {inside} {callers} {m} {a} {b} {u} {value} top facts s reached =
       let n = node_of a.state.mode top.frame in
-      let r = node_covers g.program t bound_of s.earlier (as_section g k t bound_of s) value s.meets n facts.micro reached (below_own top facts n refl) in
+      let r = node_covers g.program t bound_of Keep s.earlier (as_section g k t bound_of Keep s) value s.meets n facts.micro reached (below_own top facts n refl) in
       subst (λ (x : ℕ). facts.micro ≤ slice_index s.meets.view.costs x) (sym top.node) r

@@ -33,7 +33,6 @@ pub fn certificates_are_sound()
     method_flow::laws::invokes_keep_the_greatest();
     // of sections:
     bound_rules::laws::all_are_met();
-    bound_rules::laws::sections_are_found();
     bound_rules::laws::headers_have_bounds();
     bound_rules::laws::no_value_no_end();
     bound_rules::laws::live_edges_stay();

@@ -4,7 +4,9 @@ use Rattle.bound_sound.proofs.Sound.{certificates_are_sound}
 use Rattle.bound_sound.proofs.certificates_are_sound.Goals as goal
 
 pub returns : goal.returns
-returns c = certificates_are_sound c.activations_are_trees.ensures c.activations_are_walks.ensures c.stays_keep.ensures c.all_are_met.ensures c.invokes_keep_the_greatest.ensures known
+returns c =
+    certificates_are_sound c.activations_are_trees.ensures c.activations_are_walks.ensures c.invokes_keep_the_greatest.ensures known c.stays_keep.ensures c.all_are_met.ensures
+    c.headers_have_bounds.ensures c.no_value_no_end.ensures c.live_edges_stay.ensures c.sections_bound_walks.ensures
   where
     known : (g : Setting) → IsSetting g → Known g
     known g setting =
@@ -29,10 +31,5 @@ returns c = certificates_are_sound c.activations_are_trees.ensures c.activations
             starts = c.entries_pay_loads.ensures.starts;
             edges = c.entries_pay_loads.ensures.edges;
           };
-          found = c.sections_are_found.ensures;
-          headers = c.headers_have_bounds.ensures;
-          no_end = c.no_value_no_end.ensures;
-          edges = c.live_edges_stay.ensures;
-          bounded = c.sections_bound_walks.ensures;
           coded = c.methods_have_code.ensures;
         }
