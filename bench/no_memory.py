@@ -21,6 +21,8 @@ import flow  # noqa: E402
 SECONDS = 60
 GIVEN = b'hello \xff\0 world'
 ASKED = ['--method', 'Echo.main([Ljava/lang/String;)V']
+EXAMPLES = os.path.join(HERE, '../examples')
+SLOTS = ['slots.table', 'slots.bounds', *(name + '.class' for name in ('Slots', 'Gain', 'Mean', 'Overload', 'Stage', 'Weights'))]
 MICROCODE = b'again: .entry 3\n.const 0 -1\n.raise\nnop opd ; a byte\n.turns 2\njmp again\n'
 
 # The commands, and those with the same work up to the start of the run.
@@ -32,14 +34,32 @@ COMMANDS = {
     'trace --micro': ['trace', '--micro', '--cycles', '3000', 'image'],
     'asm': ['asm', 'text'],
     'bound': ['bound', *ASKED, 'image', 'bounds'],
+    'bound --all': ['bound', '--all', 'image', 'bounds'],
+    'bound --shapes': ['bound', '--shapes', *ASKED, 'image', 'bounds'],
     'report': ['report', *ASKED, 'image', 'bounds'],
     'check': ['check', 'image', 'bounds', 'certificate'],
+    'loops': ['loops', 'image'],
+    'loops --further': ['loops', '--further', 'image'],
+    'headers': ['headers', 'image', 'bounds'],
+    'memory': ['memory', 'image', 'bounds', 'none'],
+    'profile': ['profile', '--cycles', '100000', 'image', 'bounds'],
+    'profile of a bare image': ['profile', '--cycles', '100000', 'bare', 'none'],
+    'plan': ['plan', '--rounds', '2', *SLOTS],
+    'cycle': ['cycle', '--rounds', '2', '--cycles', '100000', SLOTS[0], *SLOTS[2:]],
     'work': ['work', '2'],
     'link, refused': ['link', '--main', 'Echo', 'cut.class'],
     'run, another word': ['run', 'differs'],
     'trace, no image': ['trace', 'cut'],
     'bound, no line': ['bound', *ASKED, 'image', 'none'],
+    'report, no line': ['report', *ASKED, 'image', 'none'],
     'check, another number': ['check', 'image', 'bounds', 'changed'],
+    'loops, another word': ['loops', 'differs'],
+    'headers, no loop': ['headers', 'image', 'stray'],
+    'memory, bad lengths': ['memory', 'image', 'bounds', 'stray'],
+    'profile, bad bounds': ['profile', 'image', 'stray'],
+    'plan, no slot': ['plan', '--rounds', '2', 'none', *SLOTS[1:]],
+    'plan, a slot without a method': ['plan', '--rounds', '2', 'slots', *SLOTS[1:]],
+    'cycle, bad table': ['cycle', '--rounds', '2', 'stray', *SLOTS[2:]],
     'asm, refused': ['asm', 'bounds'],
     'usage': ['link', '--main', 'Echo'],
     '--help': ['--help'],
@@ -91,6 +111,11 @@ def make_files(room, refuser):
     loops = [(name, place) for m, name in enumerate(program.names) for place, _ in flow.Graph(program.body(m)).loops() or {}]
     put(room, 'bounds', ''.join('%s %d loop<=14\n' % each for each in loops).encode())
     put(room, 'none', b'')
+    put(room, 'stray', b'Echo.java:1 loop<=2\n')
+    put(room, 'slots', b'slot Slots.none()V 1000\n')
+    for name in SLOTS:
+        part = '' if not name.endswith('.class') else 'executive/classes' if name == 'Slots.class' else 'controller/classes'
+        shutil.copy(os.path.join(EXAMPLES, part or 'executive', name), os.path.join(room, name))
     image = refuser.answer(COMMANDS['link'])[1]
     put(room, 'image', image)
     put(room, 'cut', image[:-1])

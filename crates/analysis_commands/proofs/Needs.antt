@@ -13,13 +13,13 @@ use Rattle.method_flow.specs.Keeping.{BoundOf}
 use Rattle.node_costs.specs.Costs as table
 use Rattle.memory_rules.specs.declared.needs.Need.{Need}
 use Rattle.memory_rules.specs.declared.causes.NeedFault.{NeedFault}
-use Rattle.memory_bound.specs.Causes.{IsNeedFault}
+use Rattle.memory_bound.specs.Causes.{IsNeedFault, IsNeedOf}
 use Rattle.analysis_commands.specs.declared.memory.Given.{Given}
 use Rattle.analysis_commands.specs.declared.memory.MemoryRefusal.{MemoryRefusal}
 use Rattle.analysis_commands.specs.declared.memory.MemoryRefusal.TheVariants as refusals
 use Rattle.analysis_commands.specs.Analysis.{bounds_of, named_or_number}
 use Rattle.analysis_commands.specs.Answers.{table_name}
-use Rattle.analysis_commands.specs.Memory.{IsGivenBy, IsBadSizes, IsBadText, IsNoNeedBy, IsNeedBy, IsNotMetBy, IsNeed, IsMemoryRefusal}
+use Rattle.analysis_commands.specs.Memory.{IsGivenBy, IsBadSizes, IsBadText, IsNoNeedBy, IsNotMetBy, IsNeed, IsMemoryRefusal}
 use Rattle.analysis_commands.proofs.Lifting.{bounds_same, named}
 
 -- ---- the texts
@@ -61,9 +61,9 @@ module _ (cs : List ClassFile) (f : Flow) (flow : IsFlowOf (resolved cs) f) (nam
       (subst (λ (b : BoundOf). Q (bounds_of cs given.bounds) b (table_name f)) (bounds_same cs f flow names given.lengths)
       (subst (λ (b : BoundOf). Q b (table.bounds_of f given.lengths) (table_name f)) (bounds_same cs f flow names given.bounds) h))
 
-  pub need_ok : (r : Result Need MemoryRefusal) → IfOk r (IsNeedBy (resolved cs) (table.bounds_of f given.bounds) (table.bounds_of f given.lengths))
-      → IfOk r (IsNeedBy (resolved cs) (bounds_of cs given.bounds) (bounds_of cs given.lengths))
-  need_ok (Ok n) h = moved (λ a b name. IsNeedBy (resolved cs) a b n) h
+  pub need_ok : (r : Result Need MemoryRefusal) → IfOk r (IsNeedOf (resolved cs) (table.bounds_of f given.bounds) (table.bounds_of f given.lengths))
+      → IfOk r (IsNeedOf (resolved cs) (bounds_of cs given.bounds) (bounds_of cs given.lengths))
+  need_ok (Ok n) h = moved (λ a b name. IsNeedOf (resolved cs) a b n) h
   need_ok (Err refusal) h = tt
 
   pub need_err : (r : Result Need MemoryRefusal) → IfErr r (IsNotMetBy (resolved cs) (table.bounds_of f given.bounds) (table.bounds_of f given.lengths) (table_name f))
@@ -74,7 +74,7 @@ module _ (cs : List ClassFile) (f : Flow) (flow : IsFlowOf (resolved cs) f) (nam
 -- ---- the answers
 
 module _ (cs : List ClassFile) (bounds_text sizes_text : List ℕ) (given : Given) (is : IsGivenBy bounds_text sizes_text given) where
-  pub answer_ok : (r : Result Need MemoryRefusal) → IfOk r (IsNeedBy (resolved cs) (bounds_of cs given.bounds) (bounds_of cs given.lengths)) → IfOk r (IsNeed cs bounds_text sizes_text)
+  pub answer_ok : (r : Result Need MemoryRefusal) → IfOk r (IsNeedOf (resolved cs) (bounds_of cs given.bounds) (bounds_of cs given.lengths)) → IfOk r (IsNeed cs bounds_text sizes_text)
   answer_ok (Ok n) h = record { given = given; is_given = is; is = h }
   answer_ok (Err refusal) h = tt
 

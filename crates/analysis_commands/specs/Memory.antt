@@ -12,10 +12,7 @@ use Rattle.memory_rules.specs.declared.causes.NeedCause.{NeedCause}
 use Rattle.memory_rules.specs.declared.causes.NeedCause.TheVariants as causes
 use Rattle.memory_rules.specs.declared.causes.NeedFault.{NeedFault}
 use Rattle.memory_rules.specs.declared.causes.NeedFault.TheVariants as faults
-use Rattle.memory_rules.specs.Stack.{IsStackNeed}
-use Rattle.memory_rules.specs.Heap.{IsHeapNeed}
-use Rattle.memory_rules.specs.Given.{HaveLengths, HaveMakingLines}
-use Rattle.memory_bound.specs.Causes.{IsNeedFault}
+use Rattle.memory_bound.specs.Causes.{IsNeedFault, IsNeedOf}
 use Rattle.answer_lines.specs.AnalysisLines.{names_text, nodes_text}
 use Rattle.analysis_commands.specs.declared.memory.Given.{Given}
 use Rattle.analysis_commands.specs.declared.memory.MemoryRefusal.{MemoryRefusal}
@@ -51,18 +48,11 @@ IsBadText bounds_text sizes_text NoMemory = Unit {0}
 
 -- ---- the need
 
--- a run of the program needs so much at most, and all is given for it that must be
-pub record IsNeedBy (P : Program) (bounds lengths : BoundOf) (need : Need) : Type 0 where
-  pub stack : IsStackNeed P need.stack
-  pub heap : IsHeapNeed P bounds lengths P.boot need.heap
-  pub have_lines : HaveMakingLines P bounds
-  pub have_lengths : HaveLengths P lengths
-
 -- the texts give bounds and lengths, and with them a run needs so much
 pub record IsNeed (cs : List ClassFile) (bounds_text sizes_text : List ℕ) (need : Need) : Type 0 where
   pub given : Given
   pub is_given : IsGivenBy bounds_text sizes_text given
-  pub is : IsNeedBy (resolved cs) (bounds_of cs given.bounds) (bounds_of cs given.lengths) need
+  pub is : IsNeedOf (resolved cs) (bounds_of cs given.bounds) (bounds_of cs given.lengths) need
 
 -- ---- the refusals
 

@@ -7,7 +7,8 @@ ghost use Rattle.node_costs.specs.Costs as table;
 ghost use Rattle.program_tables.specs.Resolved.{resolved};
 ghost use Rattle.analysis_commands.specs.Analysis.{bounds_of, named_or_number};
 ghost use Rattle.analysis_commands.specs.Answers.{table_name};
-ghost use Rattle.analysis_commands.specs.Memory.{IsGivenBy, IsBadSizes, IsBadText, cause_of, subject_of, IsNoNeedBy, IsNeedBy, IsNotMetBy, IsNeed};
+ghost use Rattle.memory_bound.specs.Causes.{IsNeedOf};
+ghost use Rattle.analysis_commands.specs.Memory.{IsGivenBy, IsBadSizes, IsBadText, cause_of, subject_of, IsNoNeedBy, IsNotMetBy, IsNeed};
 ghost use Rattle.analysis_commands.specs.Memory.{IsMemoryRefusal};
 
 use crate::analysis::table_of;
@@ -137,7 +138,7 @@ fn need_by(
     given: &Given,
 ) -> Result<Need, MemoryRefusal>
     requires { IsFlowOf (resolved program.now) flow.now }
-    ensures need { IfOk result (IsNeedBy (resolved program.now) (table.bounds_of flow.now given.now.bounds) (table.bounds_of flow.now given.now.lengths)) }
+    ensures need { IfOk result (IsNeedOf (resolved program.now) (table.bounds_of flow.now given.now.bounds) (table.bounds_of flow.now given.now.lengths)) }
     ensures fault { IfErr result (IsNotMetBy (resolved program.now) (table.bounds_of flow.now given.now.bounds) (table.bounds_of flow.now given.now.lengths)
         (table_name flow.now)) }
 {
@@ -152,7 +153,7 @@ fn need_by(
 
 /// What a run of a program needs with these bounds and lengths.
 fn need_given(alloc: Global, program: &Verified, given: &Given) -> Result<Need, MemoryRefusal>
-    ensures need { IfOk result (IsNeedBy (resolved program.now) (bounds_of program.now given.now.bounds) (bounds_of program.now given.now.lengths)) }
+    ensures need { IfOk result (IsNeedOf (resolved program.now) (bounds_of program.now given.now.bounds) (bounds_of program.now given.now.lengths)) }
     ensures fault { IfErr result (IsNotMetBy (resolved program.now) (bounds_of program.now given.now.bounds) (bounds_of program.now given.now.lengths)
         (named_or_number program.now)) }
 {

@@ -18,10 +18,10 @@ use Rattle.memory_rules.specs.Stack.{IsStackNeedOf}
 use Rattle.memory_rules.specs.Heap.{OfMethod, IsMostMade}
 use Rattle.memory_bound.specs.declared.found.Found.{Found}
 use Rattle.memory_bound.specs.Found.{IsMemoryFoundOf, found_at}
-use Rattle.memory_bound.specs.Causes.{IsCallFault, IsNeedFault}
-use Rattle.memory_bound.specs.Needs.{IsShapeFaultOf, IsShapesFault, NoneLacksBound, NoneLacksLength, NoneTooLarge, HaveNoCause, IsFoundFault, IsNeedOf, IsFaultIn}
+use Rattle.memory_bound.specs.Causes.{IsCallFault, IsNeedFault, IsNeedOf}
+use Rattle.memory_bound.specs.Needs.{IsShapeFaultOf, IsShapesFault, NoneLacksBound, NoneLacksLength, NoneTooLarge, HaveNoCause, IsFoundFault, IsFaultIn}
 use Rattle.memory_bound.proofs.Ordered.{stands_before}
-use Rattle.memory_bound.proofs.Refusing.{lines_are, lengths_are, need_is, fault_is}
+use Rattle.memory_bound.proofs.Refusing.{lines_are, lengths_are, none_large, need_is, fault_is}
 
 -- ---- the first of methods that rise
 
@@ -100,12 +100,15 @@ module _ (P : Program) (bounds lengths : BoundOf) (table : List Found) (ms order
   found_of : (x : ℕ) → Contains ms x → IsMemoryFoundOf P bounds lengths x (found_at table x)
   found_of x has = found x ((first.methods.each x).1 ((are x).0 has))
 
-  pub need_of_found : HaveNoCause table ms → (n : Need) → IsStackNeedOf P P.boot n.stack → n.heap ≡ unwrap_or (found_at table P.boot).heap 0 → IsNeedOf P bounds lengths n
-  need_of_found none n stack heap = record {
+  pub need_of_found : HasNoRecursion P P.boot → ((x : ℕ) → Contains order x → IsLeftWith P x []) → HaveNoCause table ms → (n : Need) → IsStackNeedOf P P.boot n.stack → n.heap ≡ unwrap_or (found_at table P.boot).heap 0 → IsNeedOf P bounds lengths n
+  need_of_found calls left none n stack heap = record {
     stack = stack;
     heap = subst (λ (w : ℕ). IsMostMade P bounds lengths (OfMethod P.boot) w) (sym heap) (need_is P bounds lengths table ms are found_of none P.boot ((are P.boot).1 itself));
+    calls = calls;
+    reducible = λ x within. left x ((first.methods.each x).1 within);
     lines = lines_are P bounds lengths table ms are found_of none.bounds;
     lengths_are = lengths_are P bounds lengths table ms are found_of none.lengths;
+    small = none_large P bounds lengths table ms are found_of none;
   }
 
   pub fault_of_found : (e : NeedFault) → IsFoundFault table ms e → IsFaultIn P bounds lengths e

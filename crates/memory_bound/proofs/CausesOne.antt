@@ -1,4 +1,4 @@
--- There is one cause at most why no need is given.
+-- There is one cause at most why no need is given, and none where there is a need.
 use Rattle.std.proofs.Common.{◌≡◌, ◌≢◌, ℕ, List, [], ◌∷◌, map, Some, refl, ap, ap₂, ◌∙◌, subst, inl, inr}
 use Rattle.std.proofs.lemmas.Bool.{cases_order}
 use Rattle.loop_nest.specs.Digraph.{Digraph}
@@ -13,7 +13,8 @@ use Rattle.compact_walks.specs.Laws.{GraphsAreMoved, PartsAreSound, EndsAreOne}
 use Rattle.memory_rules.specs.declared.causes.NeedCause.{NeedCause}
 use Rattle.memory_rules.specs.declared.causes.NeedCause.TheVariants.{Recursion, Irreducible, MissingBound, MissingSize, TooLarge}
 use Rattle.memory_rules.specs.Laws.{FirstLineIsOne, FirstLengthIsOne, LackingIsNotHaving}
-use Rattle.memory_bound.specs.Causes.{IsNeedCause, NeedIsTooLarge}
+use Rattle.memory_rules.specs.declared.needs.Need.{Need}
+use Rattle.memory_bound.specs.Causes.{IsNeedCause, IsNeedOf, NeedIsTooLarge}
 
 map_nil : (f : ℕ → ℕ) (xs : List ℕ) → [] ≡ map f xs → xs ≡ []
 map_nil f [] e = refl
@@ -81,3 +82,10 @@ module _ (moves : GraphsAreMoved) (sound : PartsAreSound) (ends : EndsAreOne) (o
   causes_are_one (TooLarge m) (MissingBound x q) h k = absurd ((lacking P bounds x q).0 k.2 h.2)
   causes_are_one (TooLarge m) (MissingSize x q) h k = absurd ((lacking P lengths x q).1 k.3 h.3)
   causes_are_one (TooLarge m) (TooLarge x) h k = ap TooLarge (least_one m x h.4 k.4)
+
+  pub no_cause : (n : Need) → IsNeedOf P bounds lengths n → (cause : NeedCause) → IsNeedCause P bounds lengths cause → ⊥
+  no_cause n is Recursion h = is.calls h.0 h.1
+  no_cause n is (Irreducible m) h = let f = h.1.1 in not_both moves sound ends one P m h.1.0 f.left f.some (is.reducible m f.within)
+  no_cause n is (MissingBound m p) h = (lacking P bounds m p).0 h.2 is.lines
+  no_cause n is (MissingSize m p) h = (lacking P lengths m p).1 h.3 is.lengths_are
+  no_cause n is (TooLarge m) h = is.small m h.4.0

@@ -56,6 +56,9 @@ module _ (P : Program) (bounds lengths : BoundOf) (table : List Found) (ms : Lis
       by None h small e = small
       by (Some v) h small e = let le = h.greatest e.words e.may in let more = e.exceeds in omega arith
 
+  pub none_large : HaveNoCause table ms → (m : ℕ) → NeedIsTooLarge P bounds lengths m → ⊥
+  none_large none m large = let has = (are m).1 large.0 in small_is none.bounds m has (none.sizes m has) large.1
+
   pub need_is : HaveNoCause table ms → (m : ℕ) → Contains ms m → IsMostMade P bounds lengths (OfMethod m) (unwrap_or (found_at table m).heap 0)
   need_is none m has = by (found_at table m).heap (heap_is none.bounds m has) (none.sizes m has)
     where

@@ -1,4 +1,4 @@
--- Why no need is given: cause by cause, each over all methods that may run, the least method first.
+-- The need, and why none is given: cause by cause, each over all methods that may run, the least method first.
 use Rattle.std.specs.Prelude.{ℕ, List, Some}
 use Rattle.section_check.specs.Least.{IsLeast}
 use Rattle.bytecode_model.specs.Program.{Program}
@@ -10,13 +10,26 @@ use Rattle.memory_rules.specs.declared.causes.NeedCause.{NeedCause}
 use Rattle.memory_rules.specs.declared.causes.NeedCause.TheVariants as causes
 use Rattle.memory_rules.specs.declared.causes.NeedFault.{NeedFault}
 use Rattle.memory_rules.specs.declared.causes.NeedFault.TheVariants.{Recursion, Irreducible, MissingBound, MissingSize, TooLarge, NoMemory}
-use Rattle.memory_rules.specs.Heap.{OfMethod}
+use Rattle.memory_rules.specs.declared.needs.Need.{Need}
+use Rattle.memory_rules.specs.Stack.{IsStackNeed}
+use Rattle.memory_rules.specs.Heap.{OfMethod, IsHeapNeed}
 use Rattle.memory_rules.specs.Given.{IsFirstLackingLine, IsFirstLackingLength, HaveLengths, HaveMakingLines}
 use Rattle.memory_bound.specs.Found.{Exceeds}
 
 -- a method that may run may make more words than 64 bits tell
 abbrev pub NeedIsTooLarge : Program → (bounds lengths : BoundOf) → (method : ℕ) → Type 0
 NeedIsTooLarge P bounds lengths m = IsWithin P P.boot m × Exceeds P bounds lengths (OfMethod m)
+
+-- What a run needs, where no cause stands: no methods call one another in a cycle, each loop has one entry, the loops that make objects have bounds
+-- and the arrays lengths, and the words of no method pass 64 bits.
+pub record IsNeedOf (P : Program) (bounds lengths : BoundOf) (n : Need) : Type 0 where
+  pub stack : IsStackNeed P n.stack
+  pub heap : IsHeapNeed P bounds lengths P.boot n.heap
+  pub calls : HasNoRecursion P P.boot
+  pub reducible : AreReducible P P.boot
+  pub lines : HaveMakingLines P bounds
+  pub lengths_are : HaveLengths P lengths
+  pub small : (m : ℕ) → ¬ NeedIsTooLarge P bounds lengths m
 
 -- What is right to answer: a cause stands only where those above it don't.
 abbrev pub IsNeedCause : Program → (bounds lengths : BoundOf) → NeedCause → Type 0

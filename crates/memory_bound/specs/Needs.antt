@@ -6,10 +6,7 @@ use Rattle.bound_rules.specs.Bounding.{IsLeftWith}
 use Rattle.memory_rules.specs.declared.causes.NeedFault.{NeedFault}
 use Rattle.memory_rules.specs.declared.causes.NeedFault.TheVariants.{Irreducible, MissingBound, MissingSize, TooLarge, NoMemory}
 use Rattle.section_check.specs.Least.{IsLeast}
-use Rattle.memory_rules.specs.Stack.{IsStackNeed}
-use Rattle.memory_rules.specs.Heap.{IsHeapNeed}
 use Rattle.memory_rules.specs.Given.{IsFirstLackingLine, IsFirstLackingLength, HaveLengths, HaveMakingLines}
-use Rattle.memory_rules.specs.declared.needs.Need.{Need}
 use Rattle.memory_bound.specs.declared.found.Found.{Found}
 use Rattle.memory_bound.specs.Found.{found_at}
 use Rattle.memory_bound.specs.Causes.{NeedIsTooLarge}
@@ -57,13 +54,6 @@ IsFoundFault table ms (TooLarge m) = NoneLacksBound table ms × NoneLacksLength 
 IsFoundFault table ms fault = ⊥
 
 -- ---- of a program
-
--- the need, for which nothing lacks
-pub record IsNeedOf (P : Program) (bounds lengths : BoundOf) (n : Need) : Type 0 where
-  pub stack : IsStackNeed P n.stack
-  pub heap : IsHeapNeed P bounds lengths P.boot n.heap
-  pub lines : HaveMakingLines P bounds
-  pub lengths_are : HaveLengths P lengths
 
 -- the fault, where each cycle is a loop with one entry and no methods call one another in a cycle; of want of memory nothing is said
 abbrev pub IsFaultIn : Program → (bounds lengths : BoundOf) → NeedFault → Type 0

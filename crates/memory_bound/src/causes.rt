@@ -1,16 +1,16 @@
 //! The need, or the first cause why there is none.
-ghost use Rattle.std.specs.Prelude.{◌≡◌, ◌<◌, ◌^◌, ℕ, [], length, All, Contains, IfOk, IfErr, OnOk, MatchBool};
+ghost use Rattle.std.specs.Prelude.{◌≡◌, ◌<◌, ◌^◌, ℕ, [], length, All, Contains, IfOk, IfErr, IsOk, OnOk, MatchBool, true};
 ghost use Rattle.std.specs.List.Sorted.{IsStrictlyIncreasing, IsPermutation};
 ghost use Rattle.bytecode_model.specs.Program.{Program};
 ghost use Rattle.cache_regions.specs.Region.{AreDistinct};
 ghost use Rattle.method_flow.specs.Flow.{IsFlowOf};
-ghost use Rattle.bound_rules.specs.Bounding.{IsLeftWith};
+ghost use Rattle.bound_rules.specs.Bounding.{HasNoRecursion, IsLeftWith};
 ghost use Rattle.call_regions.specs.Calling.{IsTargetsFirst};
 ghost use Rattle.call_regions.specs.Regions.{AreKnown};
 ghost use Rattle.memory_bound.specs.Setting.{ForEach, bounds_in, lengths_in};
 ghost use Rattle.memory_bound.specs.Examined.{AreFoundIn, AreToldReducible, TellsReducible};
-ghost use Rattle.memory_bound.specs.Causes.{IsCallFault, IsNeedFault};
-ghost use Rattle.memory_bound.specs.Needs.{HaveNoCause, IsFoundFault, IsNeedOf, IsShapeFaultOf, IsShapesFault, IsFaultIn, IsSmall, NoneLacksBound};
+ghost use Rattle.memory_bound.specs.Causes.{IsCallFault, IsNeedFault, IsNeedOf};
+ghost use Rattle.memory_bound.specs.Needs.{HaveNoCause, IsFoundFault, IsShapeFaultOf, IsShapesFault, IsFaultIn, IsSmall, NoneLacksBound};
 ghost use Rattle.memory_bound.specs.Needs.{NoneLacksLength};
 ghost use Rattle.memory_bound.specs.Needs.{NoneTooLarge};
 
@@ -49,12 +49,14 @@ fn rising(alloc: Global, numbers: &[u32]) -> Result<Vec<u32>, AllocError>
     Ok(rising)
 }
 
-/// Whether each cycle of the graph of the method `m` is a loop with one entry. Its graph is made anew where this isn't found yet.
+/// Whether each cycle of the graph of the method `m` is a loop with one entry. Its graph is made anew where this isn't found yet; where it
+/// is, no memory is asked for.
 fn check_shape(alloc: Global, f: &FlowProgram, m: u32, found: Found) -> Result<(), NeedFault>
     requires known { m < length f.now.methods }
     requires told { (P : Program) → IsFlowOf P f.now → TellsReducible P m found }
     ensures ok { OnOk result ((P : Program) → IsFlowOf P f.now → IsLeftWith P m []) }
     ensures cause { IfErr result (λ e. (P : Program) → IsFlowOf P f.now → IsShapeFaultOf P m e) }
+    ensures found { found.reducible ≡ true → IsOk result }
 {
     if found.reducible {
         return Ok(());
@@ -188,7 +190,7 @@ fn need_found(
     requires rising { IsStrictlyIncreasing methods.now }
     requires found { AreFoundIn task.now order.now table.now }
     ensures need { IfOk result (λ n. ForEach task.now (λ P. IsTargetsFirst P P.boot order.now → ((m : ℕ) → Contains order.now m → IsLeftWith P m [])
-        → IsNeedOf P (bounds_in task.now) (lengths_in task.now) n)) }
+        → HasNoRecursion P P.boot → IsNeedOf P (bounds_in task.now) (lengths_in task.now) n)) }
     ensures cause { IfErr result (λ e. ForEach task.now (λ P. IsTargetsFirst P P.boot order.now → ((m : ℕ) → Contains order.now m → IsLeftWith P m [])
         → IsFaultIn P (bounds_in task.now) (lengths_in task.now) e)) }
 {

@@ -1,11 +1,12 @@
 //! Laws of the definitions in `specs/`. The functions do nothing; a caller whose proof needs a law calls its function.
 
 ghost use Rattle.memory_bound.specs.HeapLaws.{AreHeapLaws, LeavesNodesOrNone};
-ghost use Rattle.memory_bound.specs.Laws.{NeedCausesAreOne};
+ghost use Rattle.memory_bound.specs.Laws.{NeedCausesAreOne, NeedsHaveNoCause};
 
-/// There is one cause at most why no need is given.
+/// There is one cause at most why no need is given, and none where there is a need.
 pub fn need_causes_are_one()
-    ensures { NeedCausesAreOne }
+    ensures one { NeedCausesAreOne }
+    ensures none { NeedsHaveNoCause }
 {
     bound_rules::laws::graphs_are_one();
     compact_walks::laws::graphs_are_moved();

@@ -7,10 +7,7 @@ ghost use Rattle.bytecode_model.specs.Program.{Program};
 ghost use Rattle.method_flow.specs.Flow.{IsFlowOf};
 ghost use Rattle.node_costs.specs.Costs.{bounds_of};
 ghost use Rattle.memory_rules.specs.Sites.{AreSitesOf};
-ghost use Rattle.memory_rules.specs.Stack.{IsStackNeed};
-ghost use Rattle.memory_rules.specs.Heap.{IsHeapNeed};
-ghost use Rattle.memory_rules.specs.Given.{HaveLengths, HaveMakingLines};
-ghost use Rattle.memory_bound.specs.Causes.{IsNeedFault};
+ghost use Rattle.memory_bound.specs.Causes.{IsNeedFault, IsNeedOf};
 
 mod causes;
 mod examining;
@@ -48,13 +45,8 @@ pub fn need(
     lengths: &Bounds,
 ) -> Result<Need, NeedFault>
     requires { length sites.now ≡ length program.now.methods }
-    ensures stack { IfOk result (λ n. (P : Program) → IsFlowOf P program.now → AreSitesOf P sites.now → IsStackNeed P n.stack) }
-    ensures heap { IfOk result (λ n. (P : Program) → IsFlowOf P program.now → AreSitesOf P sites.now
-        → IsHeapNeed P (bounds_of program.now bounds.now) (bounds_of program.now lengths.now) P.boot n.heap) }
-    ensures lines { IfOk result (λ _. (P : Program) → IsFlowOf P program.now → AreSitesOf P sites.now
-        → HaveMakingLines P (bounds_of program.now bounds.now)) }
-    ensures lengths { IfOk result (λ _. (P : Program) → IsFlowOf P program.now → AreSitesOf P sites.now
-        → HaveLengths P (bounds_of program.now lengths.now)) }
+    ensures need { IfOk result (λ n. (P : Program) → IsFlowOf P program.now → AreSitesOf P sites.now
+        → IsNeedOf P (bounds_of program.now bounds.now) (bounds_of program.now lengths.now) n) }
     ensures cause { IfErr result (λ e. (P : Program) → IsFlowOf P program.now → AreSitesOf P sites.now
         → IsNeedFault P (bounds_of program.now bounds.now) (bounds_of program.now lengths.now) e) }
 {

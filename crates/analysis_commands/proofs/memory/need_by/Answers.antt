@@ -5,15 +5,7 @@ use Rattle.analysis_commands.proofs.Needs.{not_met}
 use Rattle.analysis_commands.proofs.memory.need_by.Goals as goal
 
 pub returns-in-Ok-need-clause-need : goal.returns-in-Ok-need-clause-need
-returns-in-Ok-need-clause-need c =
-    let P = resolved c.args.program.now in
-    let e = c.in-Ok-need.ensures in
-    record {
-      stack = e.stack P c.requires c.in-Ok.ensures.sites;
-      heap = e.heap P c.requires c.in-Ok.ensures.sites;
-      have_lines = e.lines P c.requires c.in-Ok.ensures.sites;
-      have_lengths = e.lengths P c.requires c.in-Ok.ensures.sites;
-    }
+returns-in-Ok-need-clause-need c = c.in-Ok-need.ensures.need (resolved c.args.program.now) c.requires c.in-Ok.ensures.sites
 
 pub returns-clause-fault : goal.returns-clause-fault
 returns-clause-fault c =

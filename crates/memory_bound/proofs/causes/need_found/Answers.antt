@@ -34,7 +34,7 @@ returns-in_err-check_found-clause-cause c =
     same
 
 pub returns-clause-need : goal.returns-clause-need
-returns-clause-need c = λ P flow sites first left.
+returns-clause-need c = λ P flow sites first left calls.
     let task = c.args.task.now in
     let ms = c.args.methods.now in
     let order = c.args.order.now in
@@ -49,7 +49,7 @@ returns-clause-need c = λ P flow sites first left.
     let stack : c.index.result.now ≡ slice_index stacks P.boot = get_or_read stacks boot c.index.result.now in_stacks c.index.ensures 0 ∙ ap (slice_index stacks) same in
     let none = c.in_ok-check_found.ensures.ok in
     let deepest = c.in_ok-stacks.ensures.need P flow sites first P.boot ((first.methods.each P.boot).1 itself) in
-    need_of_found P (bounds_in task) (lengths_in task) table ms order first c.requires.methods (c.requires.found P flow sites first left) none
+    need_of_found P (bounds_in task) (lengths_in task) table ms order first c.requires.methods (c.requires.found P flow sites first left) calls left none
     (record { stack = c.index.result.now; heap = c.unwrap_or.result })
     (subst (λ (w : ℕ). IsStackNeedOf P P.boot w) (sym stack) deepest)
     (c.unwrap_or.ensures ∙ ap (λ (n : ℕ). unwrap_or (found_at table n).heap 0) same)

@@ -64,7 +64,7 @@ returns-clause-need c =
     let left : (m : ℕ) → Contains c.args.order.now m → IsLeftWith P m [] =
     λ m has. c.in_ok-table.ensures.reducible P flow m
     (subst (λ (ms : List ℕ). Contains ms m) (sym c.deref.ensures.value) (Contains-permutation c.args.order.now c.in_ok-methods.methods.items m c.in_ok-methods.ensures.0 has)) in
-    is P flow sites first left)
+    is P flow sites first left (no_recursion c.order_excludes_cycles.ensures P P.boot c.args.order.now first))
     c.need_found.ensures.need
 
 pub returns-clause-cause : goal.returns-clause-cause
