@@ -4,6 +4,7 @@ use Rattle.std.specs.declared.option.Option.{Option}
 use Rattle.jop.specs.declared.help.Question.{Question}
 use Rattle.jop.specs.declared.help.Question.TheVariants.{Version, Commands, Link, Run, Trace, Profile, Bound, Report, Plan, Cycle, Check}
 use Rattle.jop.specs.declared.help.Question.TheVariants.{Loops, Headers, Memory, Work, Asm}
+use Rattle.jop.specs.declared.help.TheConstants as texts
 
 abbrev pub is_help : (word : List ℕ) → Bool
 is_help word = bytes_eq word (codes "--help") || bytes_eq word (codes "-h")
@@ -49,3 +50,22 @@ question_of (word ∷ []) = alone word
 question_of (first ∷ second ∷ []) =
     if is_help second then command_named first else if bytes_eq first (codes "help") then command_named second else None
 question_of words = None
+
+-- the text that answers: the constant of the program that has the question's name
+abbrev pub help_text : Question → List ℕ
+help_text Version = texts.VERSION.now
+help_text Commands = texts.COMMANDS.now
+help_text Link = texts.LINK.now
+help_text Run = texts.RUN.now
+help_text Trace = texts.TRACE.now
+help_text Profile = texts.PROFILE.now
+help_text Bound = texts.BOUND.now
+help_text Report = texts.REPORT.now
+help_text Plan = texts.PLAN.now
+help_text Cycle = texts.CYCLE.now
+help_text Check = texts.CHECK.now
+help_text Loops = texts.LOOPS.now
+help_text Headers = texts.HEADERS.now
+help_text Memory = texts.MEMORY.now
+help_text Work = texts.WORK.now
+help_text Asm = texts.ASM.now

@@ -1,9 +1,13 @@
 //! What the program says of itself: which version it is, how it is used, and how each command is.
 ghost use Rattle.std.specs.Prelude.{◌≡◌};
 ghost use Rattle.command_line.specs.Command.{texts};
-ghost use Rattle.jop.specs.Help.{is_help, alone, command_named, question_of};
+ghost use Rattle.jop.specs.Help.{is_help, alone, command_named, question_of, help_text};
+ghost use Rattle.jop.specs.Answers.{IsTold};
 
-use std::io;
+use outside::{Sink, put_all};
+
+/// The status where standard output failed.
+const WRITE_FAULT: u8 = 4;
 
 /// The version of this repository.
 const VERSION: &str = "jop 0.10.0\n";
@@ -488,7 +492,9 @@ pub fn question_of(words: &[&str]) -> Option<Question>
 }
 
 /// The text that answers.
-fn text_of(question: Question) -> &'static str {
+fn text_of(question: Question) -> &'static str
+    ensures { result.now ≡ help_text question }
+{
     match question {
         Question::Version => VERSION,
         Question::Commands => COMMANDS,
@@ -509,7 +515,12 @@ fn text_of(question: Question) -> &'static str {
     }
 }
 
-/// Puts the text that answers on standard output.
-pub fn answer(rt: &HostRuntime, question: Question) -> io::Result<()> {
-    print!(*rt; "{}", text_of(question))
+/// Puts the text that answers on standard output, and gives the status that the process is to end with.
+pub fn answer<O: Sink>(out: &mut O, question: Question) -> u8
+    ensures { IsTold (help_text question) (O.held out.old) (O.faults out.old) (O.held out.new) (O.faults out.new) result }
+{
+    match put_all(out, text_of(question).as_bytes()) {
+        Ok(()) => 0,
+        Err(_) => WRITE_FAULT,
+    }
 }

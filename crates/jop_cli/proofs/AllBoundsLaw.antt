@@ -17,9 +17,9 @@ use Rattle.commands.specs.Reporting.{reported_bound}
 use Rattle.jop_cli.specs.Asking.{AnswersLinked, AnswersBare}
 use Rattle.jop_cli.specs.Tasks.{bounding_all, bounding_shapes, reporting}
 use Rattle.jop_cli.specs.Calls.{Call}
-use Rattle.jop_cli.specs.Correct.{HasNoLoop}
-use Rattle.jop_cli.specs.promises.Bounds.{AllBoundsKept, ShowsAllBounds, AllBoundsAreKept, KeepsNumbers, ShowsShapes, ShapesAreKept}
-use Rattle.jop_cli.specs.promises.Reports.{ShowsReport, ReportsAreKept}
+use Rattle.jop_cli.specs.promises.Images.{HasNoLoop}
+use Rattle.jop_cli.specs.promises.AllBounds.{AllBoundsKept, ShowsAllBounds, AllBoundsAreKept, KeepsNumbers, ShowsShapes, ShapesAreKept}
+use Rattle.jop_cli.specs.promises.Report.{ShowsReport, ReportsAreKept}
 use Rattle.jop_cli.proofs.ProfilingLaw.{certified_of, certified}
 use Rattle.jop_cli.proofs.Written.{TextPut, in_range, opened, text_put}
 use Rattle.jop_cli.proofs.Wholly.{executed}

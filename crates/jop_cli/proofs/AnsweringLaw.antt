@@ -15,7 +15,7 @@ use Rattle.jop_cli.specs.Asking.{AsksFiles}
 use Rattle.jop_cli.specs.Tasks.{task_of}
 use Rattle.jop_cli.specs.Answer.{DoesTask, Does, outcome_of}
 use Rattle.jop_cli.specs.Calls.{Call}
-use Rattle.jop_cli.specs.Correct.{IsAnswered, puts, says, lacks, QuestionsAreAnswered}
+use Rattle.jop_cli.specs.promises.Questions.{IsAnswered, puts, says, lacks, QuestionsAreAnswered}
 use Rattle.jop_cli.proofs.Wholly.{IsWholly, wholly, executed}
 use Rattle.jop_cli.proofs.Wholly as whole
 use Rattle.jop_cli.proofs.AskingLaw.{Comes, comes}

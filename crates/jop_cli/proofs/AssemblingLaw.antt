@@ -17,7 +17,8 @@ use Rattle.commands.specs.declared.outcome.Ending.{Ending}
 use Rattle.commands.specs.declared.outcome.Ending.TheVariants as endings
 use Rattle.commands.specs.Assembling.{IsListing, IsNoProgram, Assembles}
 use Rattle.jop_cli.specs.Calls.{Call, NothingFailed, LacksMemory, IsTold}
-use Rattle.jop_cli.specs.Correct.{IsListed, AssemblingIsComplete, AnswersEnding, AsmRefusalsAreAnswered, AsmRefusalsAreOne}
+use Rattle.jop_cli.specs.promises.Asm.{IsListed, AssemblingIsComplete, AsmRefusalsAreAnswered, AsmRefusalsAreOne}
+use Rattle.jop_cli.specs.promises.Answers.{AnswersEnding}
 use Rattle.jop_cli.proofs.Wholly.{IsWholly, wholly, executed, same_bytes, length_told}
 
 -- ---- the lines of a text

@@ -23,8 +23,8 @@ use Rattle.commands.specs.AllBounds.{SaysNoBound, EndsUnread}
 use Rattle.jop_cli.specs.Asking.{EndsBy, IsBareAnswer, PutsAnswer}
 use Rattle.jop_cli.specs.Profiling.{ProfilesBare}
 use Rattle.jop_cli.specs.Calls.{Call}
-use Rattle.jop_cli.specs.Correct.{OneBareImage}
-use Rattle.jop_cli.specs.Refusals.{cache_asked, cache_needed, LongBareCodesAreRefused}
+use Rattle.jop_cli.specs.promises.Images.{OneBareImage}
+use Rattle.jop_cli.specs.promises.Refusals.{cache_asked, cache_needed, LongBareCodesAreRefused}
 use Rattle.jop_cli.proofs.Wholly.{wholly, quiet_without}
 use Rattle.jop_cli.proofs.RunningLaw.{begins_linked, begins_bare, image_read}
 use Rattle.jop_cli.proofs.Told.{EndsSo, answers_so}

@@ -40,7 +40,7 @@ use Rattle.commands.specs.Bounding.{cause_ending, Bounds, EndsNotBounded}
 use Rattle.jop_cli.specs.Tasks.{bounding}
 use Rattle.jop_cli.specs.Answer.{outcome_of}
 use Rattle.jop_cli.specs.Calls.{Call, NothingFailed, LacksMemory}
-use Rattle.jop_cli.specs.Correct.{BoundsTexts, IsBounded, Forbids, AnswersForbidden, BoundingIsComplete, BoundRefusalsAreCaused}
+use Rattle.jop_cli.specs.promises.Bound.{BoundsTexts, IsBounded, Forbids, AnswersForbidden, BoundingIsComplete, BoundRefusalsAreCaused}
 use Rattle.jop_cli.proofs.Wholly.{IsWholly, wholly, executed, lacks}
 use Rattle.jop_cli.proofs.RunningLaw.{not_more}
 use Rattle.jop_cli.proofs.AskingLaw.{IsSound, Comes, comes}

@@ -22,7 +22,7 @@ use Rattle.commands.specs.declared.outcome.Ending.{Ending}
 use Rattle.commands.specs.declared.outcome.Outcome.TheVariants as outcomes
 use Rattle.jop_cli.specs.Answer.{outcome_of}
 use Rattle.jop_cli.specs.Calls.{Call, LacksMemory}
-use Rattle.jop_cli.specs.Correct.{Forbids, AnswersForbidden, CausesAreAnswered, NamesTellMethods}
+use Rattle.jop_cli.specs.promises.Bound.{Forbids, AnswersForbidden, CausesAreAnswered, NamesTellMethods}
 use Rattle.jop_cli.proofs.Wholly.{IsWholly, wholly, lacks}
 use Rattle.jop_cli.proofs.AskingLaw.{IsSound}
 use Rattle.jop_cli.proofs.BoundingLaw.{Settled, bounded, forbidden, lacking, settled, forbids_so, caused}

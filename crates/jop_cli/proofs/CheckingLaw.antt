@@ -42,7 +42,8 @@ use Rattle.commands.specs.Checking.{fault_ending, refusal_ending, Checks, EndsHe
 use Rattle.jop_cli.specs.Tasks.{checking}
 use Rattle.jop_cli.specs.Answer.{outcome_of}
 use Rattle.jop_cli.specs.Calls.{Call, NothingFailed, LacksMemory}
-use Rattle.jop_cli.specs.Correct.{ChecksTexts, AnswersLine, CheckingIsComplete, FaultsAreAnswered}
+use Rattle.jop_cli.specs.promises.Check.{ChecksTexts, CheckingIsComplete, FaultsAreAnswered}
+use Rattle.jop_cli.specs.promises.Answers.{AnswersLine}
 use Rattle.jop_cli.proofs.Wholly.{IsWholly, wholly, executed, lacks}
 use Rattle.jop_cli.proofs.RunningLaw.{not_more}
 use Rattle.jop_cli.proofs.AskingLaw.{Comes, comes}

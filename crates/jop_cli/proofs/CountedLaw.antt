@@ -17,7 +17,8 @@ use Rattle.analysis_commands.specs.Analysis.{timing_of}
 use Rattle.commands.specs.Show.{linked_shown}
 use Rattle.commands.specs.LinkedRun.{linked_setting}
 use Rattle.jop_cli.specs.Answer.{lent_of}
-use Rattle.jop_cli.specs.Correct.{BoundInRun, CountedLoopsAreKept, FurtherLoopsAreKept}
+use Rattle.jop_cli.specs.promises.Activations.{BoundInRun}
+use Rattle.jop_cli.specs.promises.Loops.{CountedLoopsAreKept, FurtherLoopsAreKept}
 use Rattle.jop_cli.proofs.Coming.{boot_is_fresh}
 use Rattle.jop_cli.proofs.HoldingLaw.{setting_of, timing_along, reset_timing}
 

@@ -12,7 +12,7 @@ use Rattle.program_resolution.proofs.NameLemmas.{same_self}
 use Rattle.jopizer.specs.Laws.{MainIsThere}
 use Rattle.analysis_commands.specs.Analysis.{named_or_number, number_text}
 use Rattle.analysis_commands.specs.Plan.{executive_name, IsCyclicMain, IsExecutive}
-use Rattle.jop_cli.specs.Correct.{ExecutivesAreThere}
+use Rattle.jop_cli.specs.promises.Plan.{ExecutivesAreThere}
 
 -- ---- the first number that passes a test
 

@@ -13,8 +13,8 @@ use Rattle.bound_cert.proofs.NumberLemmas.{IsDigit, digits_are}
 use Rattle.std.proofs.lemmas.Fmt.{decimal_injective}
 use Rattle.slot_table.specs.Parts.{IsCut}
 use Rattle.slot_table.proofs.Cuts.{one_cut}
-use Rattle.jop_cli.specs.Correct.{NamesTellMethods}
-use Rattle.jop_cli.specs.promises.Lines.{HeldLinesAreOne}
+use Rattle.jop_cli.specs.promises.Bound.{NamesTellMethods}
+use Rattle.jop_cli.specs.promises.Check.{HeldLinesAreOne}
 
 no_space : (text : List ℕ) → AllByRecursion (λ x. 32 < x) text → AllByRecursion (λ x. x ≢ 32) text
 no_space [] h = tt

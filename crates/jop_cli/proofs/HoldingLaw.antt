@@ -19,7 +19,7 @@ use Rattle.commands.specs.LinkedRun.{linked_setting}
 use Rattle.jop_cli.specs.Calls.{Call}
 use Rattle.jop_cli.specs.Courses.{RanShown}
 use Rattle.jop_cli.specs.Answer.{lent_of}
-use Rattle.jop_cli.specs.Correct.{BoundsHoldInRuns}
+use Rattle.jop_cli.specs.promises.Activations.{BoundsHoldInRuns}
 
 pub setting_of : (shown : Shown) (c : Call) (cs : List ClassFile) (g : Setting) (reset : machine.MachineState) (limit : ℕ) (old new : Lent) → RanShown shown c cs g reset limit old new → IsSetting g
 setting_of Output c cs g reset limit old new r = r.is_setting

@@ -23,8 +23,8 @@ use Rattle.commands.specs.Linking.{RefusesFiles, HasName}
 use Rattle.commands.specs.BareFile.{ImageFault}
 use Rattle.commands.specs.LinkedFile.{BytesFault}
 use Rattle.jop_cli.specs.Calls.{Call, LacksMemory}
-use Rattle.jop_cli.specs.Correct.{AnswersEnding, AnswersRefusal}
-use Rattle.jop_cli.specs.Refusals.{IsNoImage, BadImagesAreRefused, UnlinkedImagesAreRefused, DifferingImagesAreRefused}
+use Rattle.jop_cli.specs.promises.Answers.{AnswersEnding, AnswersRefusal}
+use Rattle.jop_cli.specs.promises.Refusals.{IsNoImage, BadImagesAreRefused, UnlinkedImagesAreRefused, DifferingImagesAreRefused}
 use Rattle.jop_cli.proofs.Wholly.{IsWholly, wholly, lacks}
 use Rattle.jop_cli.proofs.LinkingLaw.{refuses}
 use Rattle.jop_cli.proofs.RunningLaw.{begins_linked, begins_bare, wrong_in}

@@ -23,7 +23,8 @@ use Rattle.jop_cli.specs.Asking.{AnswersLinked, Answers, PutsAnswer, AsksRead, A
 use Rattle.jop_cli.specs.Tasks.{checking, bounding}
 use Rattle.jop_cli.specs.Answer.{outcome_of}
 use Rattle.jop_cli.specs.Calls.{Call}
-use Rattle.jop_cli.specs.Correct.{ShowsHeld, ShowsWritten, CheckedBoundsAreKept, WrittenBoundsAreKept}
+use Rattle.jop_cli.specs.promises.Check.{ShowsHeld, CheckedBoundsAreKept}
+use Rattle.jop_cli.specs.promises.Bound.{ShowsWritten, WrittenBoundsAreKept}
 use Rattle.jop_cli.proofs.Refusing.{IsRefusing, not_written, not_holds, refusal_refuses, cause_refuses, refusing_by, bytes_refuse, image_refuses, operands_refuse, bare_refuses}
 use Rattle.jop_cli.proofs.Wholly.{IsWholly, wholly_written, wholly_held, executed}
 

@@ -45,3 +45,4 @@ mod FoundLoops
 mod ShownTexts
 mod ShownProfiles
 pub mod HeldLines
+mod OneNeed

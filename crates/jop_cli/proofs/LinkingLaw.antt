@@ -13,7 +13,8 @@ use Rattle.commands.specs.Line.{text_of_word}
 use Rattle.commands.specs.World.{IsUntaken}
 use Rattle.commands.specs.Linking.{class_name, RefusesFiles, HasName, AreLinkedTo, PutsLinked, LinksRead, LinksFiles}
 use Rattle.jop_cli.specs.Calls.{Call, NothingFailed, LacksMemory, OperandsAreTold}
-use Rattle.jop_cli.specs.Correct.{IsLinkedBy, LinkingIsComplete, AnswersEnding, AnswersRefusal, LinkRefusalsAreAnswered, LinkRefusalsAreOne}
+use Rattle.jop_cli.specs.promises.Link.{IsLinkedBy, LinkingIsComplete, LinkRefusalsAreAnswered, LinkRefusalsAreOne}
+use Rattle.jop_cli.specs.promises.Answers.{AnswersEnding, AnswersRefusal}
 use Rattle.jop_cli.proofs.Wholly.{IsWholly, wholly, executed, lacks, same_files, files_read}
 
 module _ (c : Call) (files : List (List ℕ)) (main : List ℕ) (n : NothingFailed c) (none : (refusal : LinkRefusal) → ¬ RefusesFiles files main refusal) where

@@ -12,8 +12,8 @@ use Rattle.jop_cli.specs.Tasks.{task_of}
 use Rattle.commands.specs.Assembling.{NotAssembled, Assembles}
 use Rattle.jop_cli.specs.Answer.{Does, DoesTask}
 use Rattle.jop_cli.specs.Calls.{Call, NothingFailed}
-use Rattle.jop_cli.specs.Correct.{AnswersEnding}
-use Rattle.jop_cli.specs.Refusals.{first_operand, end_of_operands, PassesMost, NoCommandIsRefused, LongFilesAreRefused}
+use Rattle.jop_cli.specs.promises.Answers.{AnswersEnding}
+use Rattle.jop_cli.specs.promises.Refusals.{first_operand, end_of_operands, PassesMost, NoCommandIsRefused, LongFilesAreRefused}
 use Rattle.jop_cli.proofs.Executing.{does_by}
 use Rattle.jop_cli.proofs.Wholly.{IsWholly, wholly, wholly_by, executed}
 use Rattle.jop_cli.proofs.Told.{EndsSo, answers_so, operands_end, not_all, not_read, too_big_alone, not_failed_alone, file_ends}

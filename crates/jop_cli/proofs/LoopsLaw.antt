@@ -22,7 +22,8 @@ use Rattle.jop_cli.specs.Asking.{AnswersLinked, AnswersBare, Answers, PutsAnswer
 use Rattle.jop_cli.specs.Tasks.{finding_loops}
 use Rattle.jop_cli.specs.Answer.{outcome_of}
 use Rattle.jop_cli.specs.Calls.{Call}
-use Rattle.jop_cli.specs.Correct.{LinesCount, HasNoLoop, ShowsLoops, WrittenLoopsCount}
+use Rattle.jop_cli.specs.promises.Loops.{LinesCount, ShowsLoops, WrittenLoopsCount}
+use Rattle.jop_cli.specs.promises.Images.{HasNoLoop}
 use Rattle.jop_cli.proofs.Refusing.{IsRefusing, not_written, refusing_by, bytes_refuse, image_refuses, operands_refuse, bare_refuses}
 use Rattle.jop_cli.proofs.Wholly.{IsWholly, wholly_written, executed}
 

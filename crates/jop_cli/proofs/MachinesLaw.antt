@@ -53,8 +53,10 @@ use Rattle.jop_cli.specs.Planning.{plan_ending}
 use Rattle.jop_cli.specs.Profiling.{ProfilesLinked, unwatched}
 use Rattle.jop_cli.specs.Answer.{lent_of}
 use Rattle.jop_cli.specs.Calls.{Call, NothingFailed, LacksMemory}
-use Rattle.jop_cli.specs.Correct.{AnswersEnding, IsPlanned, IsCycled, puts, says, lacks, ran, unheld, PlansAreAnswered, CyclesAreRuns}
-use Rattle.jop_cli.specs.Refusals.{TakesImage, cache_asked, cache_needed, memory_needed, of_image, of_plan, of_cycle, AnswersTooLong, LongMethodsAreRefused, SmallMemoriesAreRefused}
+use Rattle.jop_cli.specs.promises.Answers.{AnswersEnding}
+use Rattle.jop_cli.specs.promises.Plan.{IsPlanned, puts, says, lacks, PlansAreAnswered}
+use Rattle.jop_cli.specs.promises.Cycle.{IsCycled, lacks, ran, unheld, CyclesAreRuns}
+use Rattle.jop_cli.specs.promises.Refusals.{TakesImage, cache_asked, cache_needed, memory_needed, of_image, of_plan, of_cycle, AnswersTooLong, LongMethodsAreRefused, SmallMemoriesAreRefused}
 use Rattle.jop_cli.proofs.Wholly.{IsWholly, wholly, quiet_of}
 use Rattle.jop_cli.proofs.Wholly as whole
 use Rattle.jop_cli.proofs.RunningLaw.{begins_linked, begins_bare, is_read, not_more}

@@ -22,8 +22,7 @@ use Rattle.commands.specs.Show.{linked_shown}
 use Rattle.commands.specs.LinkedRun.{linked_setting}
 use Rattle.jop_cli.specs.Tasks.{needing}
 use Rattle.jop_cli.specs.Answer.{lent_of}
-use Rattle.jop_cli.specs.Correct.{NeedsSuffice}
-use Rattle.jop_cli.specs.promises.Needs.{NeedsAreShown, NeedInRun, HasKept, NeedsSufficeInRuns}
+use Rattle.jop_cli.specs.promises.Memory.{NeedsSuffice, NeedsAreShown, NeedInRun, HasKept, NeedsSufficeInRuns}
 use Rattle.jop_cli.proofs.Coming.{boot_is_fresh}
 use Rattle.jop_cli.proofs.CountedLaw.{gives_bytes}
 use Rattle.jop_cli.proofs.HoldingLaw.{setting_of}

@@ -13,7 +13,8 @@ use Rattle.source_headers.specs.Files.{IsHeaderFile}
 use Rattle.source_headers.specs.Laws.{line_bound, place_bound}
 use Rattle.source_headers.specs.Whole.{HeaderFilesAreRead, FilesBoundHeaders, FileBoundsAreFoundOrSaid}
 use Rattle.analysis_commands.specs.Analysis.{bounds_of}
-use Rattle.jop_cli.specs.Correct.{HeaderFilesAreTaken, CountedLoopsAreKept, NotedLoopsAreKept}
+use Rattle.jop_cli.specs.promises.Headers.{HeaderFilesAreTaken, NotedLoopsAreKept}
+use Rattle.jop_cli.specs.promises.Loops.{CountedLoopsAreKept}
 
 pub header_files_are_taken : HeaderFilesAreRead → FilesBoundHeaders → HeaderFilesAreTaken
 header_files_are_taken files bound cs lines text r h =

@@ -1,7 +1,7 @@
 -- Bytes are those of one bare image.
 use Rattle.std.proofs.Common.{◌≡◌, ℕ, ◌/◌, ◌%◌, ◌^◌, List, drop, get_or, sym, ◌∙◌, ap, arith}
 use Rattle.image_file.specs.Bare.{BareContent, bare_bytes}
-use Rattle.jop_cli.specs.Correct.{OneBareImage}
+use Rattle.jop_cli.specs.promises.Images.{OneBareImage}
 
 -- a number has its high byte and its low one
 same_number : (m n : ℕ) → m / 2 ^ 8 ≡ n / 2 ^ 8 → m % 2 ^ 8 ≡ n % 2 ^ 8 → m ≡ n

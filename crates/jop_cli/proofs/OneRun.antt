@@ -35,7 +35,7 @@ use Rattle.commands.specs.LinkedRun.{linked_setting}
 use Rattle.jop_cli.specs.Answer.{lent_of}
 use Rattle.jop_cli.specs.Calls.{Call}
 use Rattle.jop_cli.specs.Courses.{AnswersMode, RanLinked}
-use Rattle.jop_cli.specs.Correct.{last_boundary, RunsAreOne}
+use Rattle.jop_cli.specs.promises.Run.{last_boundary, RunsAreOne}
 use Rattle.jop_cli.proofs.Coming.{boot_is_fresh}
 
 -- ---- the answers

@@ -23,7 +23,7 @@ use Rattle.jop_cli.specs.Profiling.{ProfilesLinked, ProfilesBare, ProfilesImage,
 use Rattle.jop_cli.specs.Tasks.{task_of}
 use Rattle.jop_cli.specs.Answer.{DoesTask, RunsFile, lent_of, lent_without_input}
 use Rattle.jop_cli.specs.Calls.{Call, NothingFailed}
-use Rattle.jop_cli.specs.Refusals.{TakesImage}
+use Rattle.jop_cli.specs.promises.Refusals.{TakesImage}
 use Rattle.jop_cli.proofs.Wholly.{executed, quiet_of, quiet_without, whole_told}
 use Rattle.jop_cli.proofs.ProfilingLaw as profiles
 use Rattle.jop_cli.proofs.Told.{same_told, told_are_read, first_told, told_is_read}

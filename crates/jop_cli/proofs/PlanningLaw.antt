@@ -42,7 +42,8 @@ use Rattle.commands.specs.Executive.{table_ending, executive_class, with_executi
 use Rattle.jop_cli.specs.Planning.{AnswersPlan, PlansLinked, Plans, PlansRead}
 use Rattle.jop_cli.specs.Cycling.{with_slots, EndsCycle, RanCycle, CyclesLinked, CyclesReadied, CyclesOperands, CyclesRead}
 use Rattle.jop_cli.specs.Calls.{Call, NothingFailed}
-use Rattle.jop_cli.specs.Correct.{AreReadied, IsPlanned, IsCycled, puts, says, lacks, ran, unheld, PlansAreAnswered, CyclesAreRuns, SlotsAreKept}
+use Rattle.jop_cli.specs.promises.Plan.{AreReadied, IsPlanned, puts, says, lacks, PlansAreAnswered}
+use Rattle.jop_cli.specs.promises.Cycle.{IsCycled, lacks, ran, unheld, CyclesAreRuns, SlotsAreKept}
 use Rattle.jop_cli.proofs.Least.{one_least}
 use Rattle.jop_cli.proofs.Wholly.{IsWholly, wholly, executed, same_files, files_read}
 use Rattle.jop_cli.proofs.Wholly as whole

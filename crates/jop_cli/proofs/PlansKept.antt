@@ -37,8 +37,8 @@ use Rattle.jop_cli.specs.Cycling.{cycled_files, RanCycle, CyclesReadied, CyclesR
 use Rattle.jop_cli.specs.Planning.{Plans, PlansLinked, PlansRead, PlansFiles}
 use Rattle.jopizer.specs.Linked.{Parts}
 use Rattle.jop_cli.specs.Calls.{Call}
-use Rattle.jop_cli.specs.Correct.{SlotsAreKept}
-use Rattle.jop_cli.specs.promises.Plans.{ShowsPlan, PlansAreKept, ShowsCycle, CyclesAreShown, NoSlotIsLate}
+use Rattle.jop_cli.specs.promises.Cycle.{SlotsAreKept, ShowsCycle, CyclesAreShown, NoSlotIsLate}
+use Rattle.jop_cli.specs.promises.Plan.{ShowsPlan, PlansAreKept}
 use Rattle.jop_cli.specs.promises.Runs.{IsOver}
 use Rattle.jop_cli.proofs.Refusing.{IsRefusing, not_written, operands_refuse}
 use Rattle.jop_cli.proofs.Planned.{plans_refuse, unready_refuses}

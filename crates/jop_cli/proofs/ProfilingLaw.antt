@@ -48,7 +48,7 @@ use Rattle.commands.specs.Checking.{fault_ending}
 use Rattle.commands.specs.Following.{heres_of, run_stages}
 use Rattle.jop_cli.specs.Profiling.{RanProfile, EndsRun, ProfilesLinked, ProfilesParts, ProfilesImage, ProfilesFiles, input_of, unwatched, bound_told}
 use Rattle.jop_cli.specs.Calls.{Call, NothingFailed, LacksMemory}
-use Rattle.jop_cli.specs.Correct.{ProfilesTexts, IsProfiled, ProfilesAreComplete, ProfilesAreKept}
+use Rattle.jop_cli.specs.promises.Profile.{ProfilesTexts, IsProfiled, ProfilesAreComplete, ProfilesAreKept}
 use Rattle.jop_cli.proofs.Wholly.{IsWholly, wholly, executed, lacks, same_files, files_read}
 use Rattle.jop_cli.proofs.RunningLaw.{not_more, begins_linked, is_read}
 use Rattle.jop_cli.proofs.HoldingLaw.{reset_timing}

@@ -37,7 +37,8 @@ use Rattle.commands.specs.BareFile.{ImageFault, blocks_of_code, RunsBareBytes}
 use Rattle.jop_cli.specs.Answer.{RunsFile, lent_of, lent_without_input}
 use Rattle.jop_cli.specs.Calls.{Call, NothingFailed, LacksMemory}
 use Rattle.jop_cli.specs.Courses.{RanLinked, RanBare}
-use Rattle.jop_cli.specs.Correct.{HoldsLinked, HoldsBare, RunsAreTheBytecodes, TracesAreTheRuns, BareRunsAreTheBytecodes, BareTracesAreTheRuns, OneBareImage}
+use Rattle.jop_cli.specs.promises.Run.{HoldsLinked, HoldsBare, RunsAreTheBytecodes, TracesAreTheRuns, BareRunsAreTheBytecodes, BareTracesAreTheRuns}
+use Rattle.jop_cli.specs.promises.Images.{OneBareImage}
 use Rattle.commands.proofs.Followed.{unrisen}
 use Rattle.jop_cli.proofs.Wholly.{IsWholly, wholly, executed, lacks, quiet_of, quiet_without, same_bytes, file_read}
 use Rattle.jop_cli.proofs.Coming.{ended, uncaught, spent}

@@ -10,7 +10,7 @@ use Rattle.commands.specs.Checking.{fault_ending}
 use Rattle.jop_cli.specs.Calls.{Call}
 use Rattle.jop_cli.specs.Profiling.{EndsUnprofiled, ProfilesParts, ProfilesBareFile, ProfilesImage, ProfilesFiles, unwatched}
 use Rattle.jop_cli.specs.promises.Runs.{IsOver}
-use Rattle.jop_cli.specs.promises.Profiles.{ProfileShown, BareProfileShown, ShowsProfile, ProfilesAreShown}
+use Rattle.jop_cli.specs.promises.Profile.{ProfileShown, BareProfileShown, ShowsProfile, ProfilesAreShown}
 use Rattle.jop_cli.proofs.Refusing.{IsRefusing, refusing_by, fault_refuses, bytes_refuse, image_refuses, too_long_refuses, operands_refuse}
 use Rattle.jop_cli.proofs.ShownRuns.{refused_over, wholly_over}
 use Rattle.jop_cli.proofs.PlansKept.{unheld_refuses}

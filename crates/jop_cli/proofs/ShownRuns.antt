@@ -26,9 +26,8 @@ use Rattle.jop_cli.specs.declared.task.Task.{Task}
 use Rattle.jop_cli.specs.Answer.{DoesTask, FileFault, RunsFile, outcome_of, outcome_unsaid, lent_of, lent_without_input}
 use Rattle.jop_cli.specs.Calls.{Call}
 use Rattle.jop_cli.specs.Courses.{RanLinked, RanBare}
-use Rattle.jop_cli.specs.Correct.{BoundInRun, BoundsHoldInRuns}
+use Rattle.jop_cli.specs.promises.Activations.{BoundInRun, BoundsHoldInRuns, CheckedRunsAreKept}
 use Rattle.jop_cli.specs.promises.Runs.{IsOver, RanLinkedFile, RanBareFile, ShowsRun, RunsAreShown, RunsComeToBoundaries}
-use Rattle.jop_cli.specs.promises.Checks.{CheckedRunsAreKept}
 use Rattle.jop_cli.proofs.Refusing.{IsRefusing, bytes_refuse, image_refuses}
 use Rattle.jop_cli.proofs.Wholly.{IsWholly, executed}
 use Rattle.jop_cli.proofs.Coming.{ended, uncaught, spent}

@@ -12,7 +12,9 @@ use Rattle.commands.specs.Assembling.{Assembles, PutsListing}
 use Rattle.jop_cli.specs.Tasks.{heading}
 use Rattle.jop_cli.specs.Answer.{outcome_of}
 use Rattle.jop_cli.specs.Calls.{Call}
-use Rattle.jop_cli.specs.promises.Texts.{ShowsLinked, LinkedImagesAreShown, ListingsAreShown, HeadersAreShown}
+use Rattle.jop_cli.specs.promises.Link.{ShowsLinked, LinkedImagesAreShown}
+use Rattle.jop_cli.specs.promises.Asm.{ListingsAreShown}
+use Rattle.jop_cli.specs.promises.Headers.{HeadersAreShown}
 use Rattle.jop_cli.proofs.Refusing.{not_written, operands_refuse}
 use Rattle.jop_cli.proofs.Wholly.{IsWholly, wholly_written, executed}
 use Rattle.jop_cli.proofs.Written.{opened, text_put}

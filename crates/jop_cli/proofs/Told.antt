@@ -13,8 +13,8 @@ use Rattle.commands.specs.World.{IsQuiet, Reads, IsTooBig}
 use Rattle.commands.specs.Linking.{files_of, OperandsFault}
 use Rattle.jop_cli.specs.Answer.{FileFault}
 use Rattle.jop_cli.specs.Calls.{Call, NothingFailed, LacksMemory, IsTold}
-use Rattle.jop_cli.specs.Correct.{AnswersEnding}
-use Rattle.jop_cli.specs.Refusals.{TellsFiles, PassesMost}
+use Rattle.jop_cli.specs.promises.Answers.{AnswersEnding}
+use Rattle.jop_cli.specs.promises.Refusals.{TellsFiles, PassesMost}
 use Rattle.jop_cli.proofs.Wholly.{IsWholly, lacks, whole_told, length_told, file_read}
 
 -- ---- what is answered

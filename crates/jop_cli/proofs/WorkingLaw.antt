@@ -10,7 +10,7 @@ use Rattle.commands.specs.World.{IsQuiet}
 use Rattle.commands.specs.Working.{PutsWholeLine, NotWorked, OnlyOut}
 use Rattle.jop_cli.specs.Answer.{outcome_of}
 use Rattle.jop_cli.specs.Calls.{Call}
-use Rattle.jop_cli.specs.Correct.{IsWorkedBy, Hinders, puts, says, lacks, WorkingIsComplete, WorkLinesAreTrue}
+use Rattle.jop_cli.specs.promises.Work.{IsWorkedBy, Hinders, puts, says, lacks, WorkingIsComplete, WorkLinesAreTrue}
 use Rattle.jop_cli.proofs.Wholly.{IsWholly, wholly, wholly_written, executed}
 use Rattle.jop_cli.proofs.Wholly as whole
 

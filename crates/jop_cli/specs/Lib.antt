@@ -9,5 +9,4 @@ pub mod Process
 pub mod Calls
 pub mod Courses
 pub mod Correct
-pub mod Refusals
 pub mod promises

@@ -1,12 +1,22 @@
--- What two outcomes promise together, and what the outcome of one call shows alone: statements beside `Correct`, each the contract of a function of `laws`.
+-- What the program promises, a file a command: each statement is the contract of a function of `laws`. `Correct` is the page of them.
+pub mod Words
+pub mod Answers
 pub mod Images
+pub mod Link
+pub mod Run
 pub mod Runs
-pub mod Texts
-pub mod Bounds
-pub mod Reports
-pub mod Plans
-pub mod Profiles
+pub mod Check
+pub mod Bound
+pub mod AllBounds
+pub mod Activations
+pub mod Report
+pub mod Profile
+pub mod Plan
+pub mod Cycle
 pub mod Loops
-pub mod Needs
-pub mod Checks
-pub mod Lines
+pub mod Headers
+pub mod Memory
+pub mod Questions
+pub mod Asm
+pub mod Work
+pub mod Refusals

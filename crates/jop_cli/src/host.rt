@@ -1,14 +1,12 @@
-//! The program over the real files and streams.
-ghost use Rattle.std.specs.Prelude.{◌≡◌, ◌<◌, ◌≤◌, ◌^◌, ◌⊎◌, length, map, None, string_bytes, IfOk};
+//! The program over the files of a system, a reader and two sinks; and the words of this process.
+ghost use Rattle.std.specs.Prelude.{◌≡◌, ◌<◌, ◌^◌, ◌⊎◌, length, map, string_bytes, IfOk, IfErr};
 ghost use Rattle.command_line.specs.Command.{texts};
 ghost use Rattle.commands.specs.World.{world};
-ghost use Rattle.jop_cli.specs.Process.{IsStatus, IsNewStatus, IsProcessStatus};
+ghost use Rattle.jop_cli.specs.Process.{IsStatus, IsCalledStatus, IsWordsStatus, sinks};
 
 use crate::jop;
 use jop_core::{NoWatch, Watch};
-use outside::{
-    DirectWrite, FileSystem, Files, HostFiles, HostSink, HostSource, Sink, Source, SteadyRead,
-};
+use outside::{FileSystem, Files, HostFiles, HostSource, Sink, Source, SteadyRead};
 use std::alloc::{AllocError, Global};
 use std::{env, io};
 
@@ -23,7 +21,9 @@ const NO_WORDS: u8 = 6;
 /// # Errors
 ///
 /// The status that the process is to end with: 5 where there is no memory for them, and 6 where one is no text.
-pub fn words_of(rt: &HostRuntime) -> Result<Vec<String>, u8> {
+pub fn words_of(rt: &HostRuntime) -> Result<Vec<String>, u8>
+    ensures { IfErr result (λ status. (status ≡ 5) ⊎ (status ≡ 6)) }
+{
     let mut words = Vec::new(rt.alloc());
     let given = match env::args(rt) {
         Ok(given) => given,
@@ -71,24 +71,25 @@ pub fn status_of_call<F: Files, S: Source, O: Sink, E: Sink, V: Watch>(
     jop(alloc, words, files, input, out, err, watch).status()
 }
 
-/// Calls the program over the files of a system, a reader and two writers. Without memory for the files the status
-/// is 5, as it is where the program finds none.
-pub fn run_over<S, R, W, E>(
+/// Calls the program over the files of a system, a reader and two sinks. Without memory for the files the status is 5,
+/// as it is where the program finds none, and the sinks are as they were.
+pub fn run_over<S, R, O, E>(
     alloc: Global,
     words: &[&str],
     system: S,
     input: R,
-    out: W,
-    err: E,
+    out: &mut O,
+    err: &mut E,
 ) -> u8
 where
     S: FileSystem + Drop,
     R: SteadyRead + Drop,
-    W: DirectWrite + Drop,
-    E: DirectWrite + Drop,
+    O: Sink,
+    E: Sink,
     requires { length words.now < 2 ^ 32 }
-    ensures { (result ≡ 5) ⊎ IsNewStatus (texts words.now) (map (λ word. S.told system word.now) words.now)
-        (R.remaining input) (W.contents out) (E.contents err) result }
+    ensures { IsCalledStatus (texts words.now) (map (λ word. S.told system word.now) words.now) (R.remaining input)
+        (sinks (O.held out.old) (O.faults out.old) (E.held err.old) (E.faults err.old))
+        (sinks (O.held out.new) (O.faults out.new) (E.held err.new) (E.faults err.new)) result }
 {
     let Ok(mut files) = HostFiles::new(alloc, system, words) else {
         return NO_MEMORY;
@@ -98,41 +99,32 @@ where
         words,
         &mut files,
         &mut HostSource::new(input),
-        &mut HostSink::new(out),
-        &mut HostSink::new(err),
+        out,
+        err,
         &mut NoWatch,
     )
 }
 
 /// The same with however many words. Where there are 2^32 or more, no call is made, and the status is 6.
-pub fn run_words<S, R, W, E>(
+pub fn run_words<S, R, O, E>(
     alloc: Global,
     words: &[&str],
     system: S,
     input: R,
-    out: W,
-    err: E,
+    out: &mut O,
+    err: &mut E,
 ) -> u8
 where
     S: FileSystem + Drop,
     R: SteadyRead + Drop,
-    W: DirectWrite + Drop,
-    E: DirectWrite + Drop,
-    ensures called { length words.now < 2 ^ 32 → (result ≡ 5) ⊎ IsNewStatus (texts words.now) (map (λ word. S.told system word.now) words.now)
-        (R.remaining input) (W.contents out) (E.contents err) result }
-    ensures many { 2 ^ 32 ≤ length words.now → result ≡ 6 }
+    O: Sink,
+    E: Sink,
+    ensures { IsWordsStatus (texts words.now) (map (λ word. S.told system word.now) words.now) (R.remaining input)
+        (sinks (O.held out.old) (O.faults out.old) (E.held err.old) (E.faults err.old))
+        (sinks (O.held out.new) (O.faults out.new) (E.held err.new) (E.faults err.new)) result }
 {
     if words.len() >= 1 << 32 {
         return NO_WORDS;
     }
     run_over(alloc, words, system, input, out, err)
-}
-
-/// Calls the program with these words over the files and the streams of this process, and gives the status that it is
-/// to end with.
-pub fn run_process(rt: HostRuntime, words: &[&str]) -> u8
-    ensures { IsProcessStatus (texts words.now) result }
-{
-    let (alloc, input, out, err) = (rt.alloc(), rt.stdin(), rt.stdout(), rt.stderr());
-    run_words(alloc, words, rt, input, out, err)
 }

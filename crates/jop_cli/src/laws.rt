@@ -1,26 +1,26 @@
 //! What the program promises. The functions do nothing; a caller whose proof needs a law calls its function.
 //!
 //! The laws speak of calls of `jop`: what its contract says of its arguments and of its outcome makes one (`call_of`).
-ghost use Rattle.jop_cli.specs.Correct.{LinkingIsComplete, LinkRefusalsAreAnswered, LinkRefusalsAreOne, RunsAreTheBytecodes, TracesAreTheRuns, OneBareImage};
-ghost use Rattle.jop_cli.specs.Correct.{BareRunsAreTheBytecodes, BareTracesAreTheRuns, AssemblingIsComplete, AsmRefusalsAreAnswered, AsmRefusalsAreOne};
-ghost use Rattle.jop_cli.specs.Correct.{BoundsAreKept, CheckingIsComplete, FaultsAreAnswered, BoundingIsComplete, BoundRefusalsAreCaused, CausesAreAnswered};
-ghost use Rattle.jop_cli.specs.Correct.{BoundsHoldInRuns, MethodsAreLoadedOnce, WrittenLoopsCount, CountedLoopsAreKept, FurtherLoopsAreKept};
-ghost use Rattle.jop_cli.specs.Correct.{HeaderFilesAreTaken, HeaderFilesHaveBounds, NotedLoopsAreKept, QuestionsAreAnswered, NeedsSuffice, NamesTellMethods};
-ghost use Rattle.jop_cli.specs.Correct.{ProfilesAreComplete, ProfilesAreKept, ExecutivesAreThere, PlansAreAnswered, CyclesAreRuns, SlotsAreKept, ReportsAddUp};
-ghost use Rattle.jop_cli.specs.Correct.{WorkingIsComplete, RunsAreOne, WorkLinesAreTrue};
-ghost use Rattle.jop_cli.specs.promises.Bounds.{AllBoundsAreKept, ShapesAreKept};
-ghost use Rattle.jop_cli.specs.promises.Checks.{CheckedRunsAreKept};
-ghost use Rattle.jop_cli.specs.promises.Images.{OneLinkedImage};
-ghost use Rattle.jop_cli.specs.promises.Lines.{HeldLinesAreOne};
-ghost use Rattle.jop_cli.specs.promises.Loops.{FoundLoopsAreKept, FurtherFoundLoopsAreKept};
-ghost use Rattle.jop_cli.specs.promises.Needs.{NeedsAreShown, NeedsSufficeInRuns};
-ghost use Rattle.jop_cli.specs.promises.Plans.{CyclesAreShown, NoSlotIsLate, PlansAreKept};
-ghost use Rattle.jop_cli.specs.promises.Profiles.{ProfilesAreShown};
-ghost use Rattle.jop_cli.specs.promises.Reports.{ReportsAreKept};
+ghost use Rattle.jop_cli.specs.promises.Link.{LinkingIsComplete, LinkRefusalsAreAnswered, LinkRefusalsAreOne, LinkedImagesAreShown};
+ghost use Rattle.jop_cli.specs.promises.Run.{RunsAreTheBytecodes, TracesAreTheRuns, BareRunsAreTheBytecodes, BareTracesAreTheRuns, RunsAreOne};
+ghost use Rattle.jop_cli.specs.promises.Images.{OneBareImage, OneLinkedImage};
+ghost use Rattle.jop_cli.specs.promises.Asm.{AssemblingIsComplete, AsmRefusalsAreAnswered, AsmRefusalsAreOne, ListingsAreShown};
+ghost use Rattle.jop_cli.specs.promises.Bound.{BoundsAreKept, BoundingIsComplete, BoundRefusalsAreCaused, CausesAreAnswered, NamesTellMethods};
+ghost use Rattle.jop_cli.specs.promises.Check.{CheckingIsComplete, FaultsAreAnswered, HeldLinesAreOne};
+ghost use Rattle.jop_cli.specs.promises.Activations.{BoundsHoldInRuns, MethodsAreLoadedOnce, CheckedRunsAreKept};
+ghost use Rattle.jop_cli.specs.promises.Loops.{WrittenLoopsCount, CountedLoopsAreKept, FurtherLoopsAreKept, FoundLoopsAreKept, FurtherFoundLoopsAreKept};
+ghost use Rattle.jop_cli.specs.promises.Headers.{HeaderFilesAreTaken, HeaderFilesHaveBounds, NotedLoopsAreKept, HeadersAreShown};
+ghost use Rattle.jop_cli.specs.promises.Questions.{QuestionsAreAnswered};
+ghost use Rattle.jop_cli.specs.promises.Memory.{NeedsSuffice, NeedCausesAreTold, NeedsAreNotRefused, NeedsAreOne, NeedsAreShown, NeedsSufficeInRuns};
+ghost use Rattle.jop_cli.specs.promises.Profile.{ProfilesAreComplete, ProfilesAreKept, ProfilesAreShown};
+ghost use Rattle.jop_cli.specs.promises.Plan.{ExecutivesAreThere, PlansAreAnswered, PlansAreKept};
+ghost use Rattle.jop_cli.specs.promises.Cycle.{CyclesAreRuns, SlotsAreKept, CyclesAreShown, NoSlotIsLate};
+ghost use Rattle.jop_cli.specs.promises.Report.{ReportsAddUp, ReportsAreKept};
+ghost use Rattle.jop_cli.specs.promises.Work.{WorkingIsComplete, WorkLinesAreTrue};
+ghost use Rattle.jop_cli.specs.promises.AllBounds.{AllBoundsAreKept, ShapesAreKept};
 ghost use Rattle.jop_cli.specs.promises.Runs.{RunsAreShown, RunsComeToBoundaries};
-ghost use Rattle.jop_cli.specs.promises.Texts.{HeadersAreShown, LinkedImagesAreShown, ListingsAreShown};
-ghost use Rattle.jop_cli.specs.Refusals.{NoCommandIsRefused, LongFilesAreRefused, BadImagesAreRefused, UnlinkedImagesAreRefused, DifferingImagesAreRefused};
-ghost use Rattle.jop_cli.specs.Refusals.{LongMethodsAreRefused, LongBareCodesAreRefused, SmallMemoriesAreRefused};
+ghost use Rattle.jop_cli.specs.promises.Refusals.{NoCommandIsRefused, LongFilesAreRefused, BadImagesAreRefused, UnlinkedImagesAreRefused};
+ghost use Rattle.jop_cli.specs.promises.Refusals.{DifferingImagesAreRefused, LongMethodsAreRefused, LongBareCodesAreRefused, SmallMemoriesAreRefused};
 
 use activation_laws::{activations_are_seen, called_keep_bounds, profiles_keep_bounds};
 use activations::laws::{places_tell_words, steps_are_told};
@@ -43,8 +43,12 @@ use jopizer::laws::{
     linked_files_are_not_refused, linked_images_are_read, main_is_there, one_linked,
     refusals_are_one,
 };
-use loop_bounds::laws::{gives_one, read_is_not_refused};
+use loop_bounds::laws::{
+    gives_one, lengths_give_one, read_is_not_refused, read_lengths_are_not_refused,
+};
+use memory_bound::laws::need_causes_are_one;
 use memory_laws::laws::{heap_need_suffices, stack_need_suffices};
+use memory_rules::laws::needs_are_one;
 use method_names::laws::written_names_are_one;
 use report_lines::laws::lines_add_up;
 use source_headers::laws::{files_bound_headers, header_files_are_read, roots_have_lines};
@@ -247,15 +251,25 @@ pub fn questions_are_answered()
     linked_images_are_read();
 }
 
-/// What `memory` tells suffices, and so it does in the runs of what is linked.
+/// What `memory` tells suffices, and so it does in the runs of what is linked. The texts give one need, and then nothing refuses them; or
+/// one cause at most why there is none.
 pub fn needs_suffice()
     ensures suffice { NeedsSuffice }
     ensures shown { NeedsAreShown }
     ensures in_runs { NeedsSufficeInRuns }
+    ensures one { NeedsAreOne }
+    ensures not_refused { NeedsAreNotRefused }
+    ensures causes { NeedCausesAreTold }
 {
     verified_programs_are_told();
     stack_need_suffices();
     heap_need_suffices();
+    needs_are_one();
+    need_causes_are_one();
+    gives_one();
+    read_is_not_refused();
+    lengths_give_one();
+    read_lengths_are_not_refused();
 }
 
 /// The line of `work` is put, or what stands in its way is answered; and where the answer is that it is written, it is true.

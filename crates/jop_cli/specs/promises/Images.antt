@@ -1,10 +1,21 @@
 -- The image whose bytes a file has.
-use Rattle.std.specs.Prelude.{◌≡◌, ℕ, List}
+use Rattle.std.specs.Prelude.{◌≡◌, ℕ, List, []}
 use Rattle.image_file.specs.Linked as file
-use Rattle.jopizer.specs.Linked.{Parts, IsLinked, image_of}
-use Rattle.program_tables.specs.Resolving.{IsResolved}
-use Rattle.activations.specs.Setting.{IsSetting}
-use Rattle.commands.specs.LinkedRun.{linked_setting}
+use Rattle.jop_cli.specs.promises.Words.{BareContent, IsBareFile, Grew, Call, Parts, IsLinked, image_of, IsResolved, IsSetting, linked_setting}
+
+-- ---- `run` and `trace`
+
+-- Bytes are those of one bare image.
+abbrev pub OneBareImage : Type 0
+OneBareImage = (bytes : List ℕ) (a b : BareContent) → IsBareFile bytes a → IsBareFile bytes b → a ≡ b
+
+-- ---- `loops`
+
+-- no line was put of a bare image, which has no classes
+pub record HasNoLoop (c : Call) (bytes : List ℕ) : Type 0 where
+  pub image : BareContent
+  pub bare : IsBareFile bytes image
+  pub put : Grew c.old.out c.new.out []
 
 -- Bytes are those of one linked image: calls that are given the same bytes speak of one program.
 abbrev pub OneLinkedImage : Type 0

@@ -1,28 +1,32 @@
 -- What a call of `run` or of `trace` shows that answers how the run ended, and the boundaries of such a run.
-use Rattle.std.specs.Prelude.{◌≡◌, ℕ, ◌<◌, ◌⊎◌, List, Ok}
-use Rattle.image_file.specs.Bare.{BareContent, IsBareFile}
+use Rattle.std.specs.Prelude.{◌≡◌, ℕ, Some, List, ◌⊎◌, Ok, ◌<◌}
 use Rattle.image_file.specs.Linked as file
 use Rattle.memory_timing.specs.declared.Config.{Config}
-use Rattle.bytecode_typing.specs.Fits.{IsGoing}
-use Rattle.program_tables.specs.Resolved.{resolved}
-use Rattle.method_runs.specs.Runs.{Walks, walks_from}
-use Rattle.boundary.specs.Setting.{limits}
-use Rattle.boundary.specs.Activations.{Stage, Follows}
-use Rattle.boundary.specs.Runs.{input_of}
-use Rattle.command_line.specs.declared.command.Settings.{Settings}
-use Rattle.command_line.specs.declared.command.Command.{Command}
-use Rattle.command_line.specs.Command.{command_of}
-use Rattle.jopizer.specs.Linked.{Parts, IsLinked, image_of}
+use Rattle.bytecode_model.specs.State.{State}
+use Rattle.bytecode_model.specs.Steps.{boot_state}
+use Rattle.boundary.specs.Runs.{Goes, input_of}
 use Rattle.commands.specs.declared.outcome.Outcome.{Outcome}
 use Rattle.commands.specs.declared.outcome.Outcome.TheVariants.{Ended, Uncaught, Spent}
-use Rattle.commands.specs.declared.show.Show.{Show}
-use Rattle.commands.specs.LinkedRun.{linked_setting}
 use Rattle.commands.specs.World.{Reads}
+use Rattle.bytecode_typing.specs.Fits.{IsGoing}
+use Rattle.method_runs.specs.Runs.{Walks, walks_from}
+use Rattle.boundary.specs.Setting.{limits}
+use Rattle.boundary.specs.Activations.{Follows}
+use Rattle.jop_cli.specs.promises.Words.{Settings, Parts, linked_reset, Stage, resolved, linked_setting, IsLinked, image_of, Show, Call, RanLinked}
+use Rattle.jop_cli.specs.promises.Words.{BareContent, IsBareFile, Command, command_of, task_of}
+use Rattle.jop_cli.specs.Courses.{RanBare}
 use Rattle.jop_cli.specs.declared.task.Task.TheVariants.{Run}
-use Rattle.jop_cli.specs.Tasks.{task_of}
-use Rattle.jop_cli.specs.Calls.{Call}
-use Rattle.jop_cli.specs.Courses.{RanLinked, RanBare}
-use Rattle.jop_cli.specs.Correct.{last_boundary, IsBoundary}
+use Rattle.jop_cli.specs.promises.Run.{last_boundary}
+
+-- ---- the bounds in the runs
+
+-- a boundary of the run of what was linked, from reset: some steps lead to it
+pub record IsBoundary (settings : Settings) (l : Parts) (config : Config) (a : Stage) : Type 0 where
+  pub boot : State
+  pub is_boot : boot_state (resolved l.classes) ≡ Some boot
+  pub steps : ℕ
+  pub goes : Goes (linked_setting l.classes settings.stack config.memory) settings.cycles
+      (record { machine = linked_reset settings.stack l.laid.words config; state = boot }) steps a
 
 -- ---- from the outcome alone
 

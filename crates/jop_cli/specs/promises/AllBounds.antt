@@ -1,26 +1,15 @@
 -- What a call of `bound --all` or of `bound --shapes` shows that answers that its lines are written: each number in a line is kept.
-use Rattle.std.specs.Prelude.{◌≡◌, ℕ, ◌+◌, ◌⊎◌, List, Some, Ok, slice_get}
-use Rattle.std.specs.declared.option.Option.{Option}
-use Rattle.class_pool.specs.declared.class.ClassFile.{ClassFile}
-use Rattle.outside.specs.Outside.{Grew}
-use Rattle.outside.specs.Files.{AreFiles}
-use Rattle.program_tables.specs.Resolved.{resolved}
-use Rattle.activations.specs.Warrant.{BoundsActivations}
-use Rattle.method_bounds.specs.declared.answer.BoundAnswer.{BoundAnswer}
-use Rattle.command_line.specs.declared.command.Settings.{Settings}
+use Rattle.std.specs.Prelude.{◌≡◌, ℕ, List, Some, slice_get, ◌+◌, ◌⊎◌, Ok}
 use Rattle.command_line.specs.declared.command.Command.TheVariants.{BoundAll, BoundShapes}
-use Rattle.command_line.specs.Command.{command_of}
-use Rattle.jopizer.specs.Linked.{Parts}
-use Rattle.analysis_commands.specs.Analysis.{timing_of, bounds_of}
+use Rattle.method_bounds.specs.declared.answer.BoundAnswer.{BoundAnswer}
 use Rattle.analysis_commands.specs.Bounding.{IsBoundNumber}
+use Rattle.std.specs.declared.option.Option.{Option}
 use Rattle.analysis_commands.specs.Shapes.{shape_with, with_shape, AreShapeLines}
-use Rattle.commands.specs.declared.outcome.Outcome.TheVariants.{Written}
-use Rattle.commands.specs.Line.{text_of_word}
 use Rattle.commands.specs.AllBounds.{SaysBounds}
-use Rattle.jop_cli.specs.Calls.{Call}
+use Rattle.jop_cli.specs.promises.Words.{Grew, resolved, BoundsActivations, Settings, Parts, timing_of, bounds_of, text_of_word, Call, AreFiles, command_of}
+use Rattle.jop_cli.specs.promises.Words.{Written, ClassFile}
 use Rattle.jop_cli.specs.Profiling.{bound_told}
-use Rattle.jop_cli.specs.Correct.{HasNoLoop}
-use Rattle.jop_cli.specs.promises.Images.{IsOpened}
+use Rattle.jop_cli.specs.promises.Images.{IsOpened, HasNoLoop}
 
 -- ---- `bound --all`
 

@@ -1,34 +1,26 @@
 -- Where a refusal must come: each law has the cause of one, in the order in which a command looks for them. Where that stands and nothing fails, the refusal is
 -- answered; or there was no memory. `Correct` has the laws of what refuses class files (`link`), texts and methods.
-use Rattle.std.specs.Prelude.{◌≡◌, ℕ, ◌+◌, ◌<◌, ◌≤◌, ◌⊎◌, List, [], ◌∷◌, length, slice_index_or, sum_by, Option, Some, None, Ok, Err, Vec}
+use Rattle.std.specs.Prelude.{◌≡◌, ℕ, Err, ◌+◌, ◌<◌, ◌≤◌, List, [], length, slice_index_or, sum_by, Some, ◌⊎◌, Ok, ◌∷◌, Option, None, Vec}
 use Rattle.std.specs.declared.alloc.Global.{Global}
-use Rattle.outside.specs.Outside.{Rose}
-use Rattle.outside.specs.Files.{most_bytes}
-use Rattle.image_file.specs.Bare.{BareContent, IsBareFile}
 use Rattle.image_file.specs.Linked as file
 use Rattle.image_file.specs.Linked.{LinkedContent}
-use Rattle.command_line.specs.declared.command.Settings.{Settings}
-use Rattle.command_line.specs.declared.command.Command.{Command}
 use Rattle.command_line.specs.declared.command.Command.TheVariants.{Plan as ToPlan, Cycle as ToCycle}
-use Rattle.command_line.specs.Command.{command_of}
-use Rattle.jopizer.specs.declared.refusal.LinkRefusal.{LinkRefusal}
-use Rattle.jopizer.specs.Linked.{Parts, IsLinked, image_of}
-use Rattle.jopizer.specs.Images.{DiffersFirst}
-use Rattle.slot_table.specs.declared.slot.Slot.{Slot}
-use Rattle.jop_cli.specs.declared.asking.Question.{Question}
-use Rattle.jop_cli.specs.declared.asking.Question.TheVariants.{Check, Bound, Bounds, Shapes, Report, Loops, Headers, Memory}
-use Rattle.commands.specs.declared.outcome.Refusal.TheVariants.{Usage, TooBig, BadImage, Differs, MethodTooLong, MemoryTooSmall}
 use Rattle.commands.specs.declared.outcome.Ending.TheVariants.{Refused, TooLong}
-use Rattle.jop_cli.specs.declared.task.Task.{Task}
-use Rattle.jop_cli.specs.declared.task.Task.TheVariants.{Run, Profile, Plan, Cycle, Assemble, Link, Ask, Work}
-use Rattle.jop_cli.specs.Tasks.{task_of}
-use Rattle.commands.specs.Linking.{RefusesFiles}
-use Rattle.commands.specs.LinkedFile.{NamesMethod}
-use Rattle.commands.specs.LinkedSettings.{CodesFit, IsTooLong}
+use Rattle.commands.specs.declared.outcome.Refusal.TheVariants.{Usage, TooBig, BadImage, Differs, MethodTooLong, MemoryTooSmall}
+use Rattle.commands.specs.LinkedSettings.{IsTooLong}
 use Rattle.commands.specs.BareFile.{blocks_of_code}
-use Rattle.commands.specs.Executive.{IsLinkedWith}
-use Rattle.jop_cli.specs.Calls.{Call, NothingFailed, LacksMemory}
-use Rattle.jop_cli.specs.Correct.{AnswersEnding, AnswersRefusal, AreReadied}
+use Rattle.outside.specs.Outside.{Rose}
+use Rattle.outside.specs.Files.{most_bytes}
+use Rattle.commands.specs.LinkedFile.{NamesMethod}
+use Rattle.jopizer.specs.Images.{DiffersFirst}
+use Rattle.jop_cli.specs.promises.Words.{command_of, Call, Command, task_of, NothingFailed, LacksMemory, BareContent, IsBareFile, LinkRefusal, RefusesFiles}
+use Rattle.jop_cli.specs.promises.Words.{Settings, Parts, IsLinked, image_of, Slot, IsLinkedWith, CodesFit}
+use Rattle.jop_cli.specs.declared.asking.Question.{Question}
+use Rattle.jop_cli.specs.declared.task.Task.TheVariants.{Run, Profile, Plan, Cycle, Assemble, Link, Ask, Work}
+use Rattle.jop_cli.specs.declared.asking.Question.TheVariants.{Check, Bound, Bounds, Shapes, Report, Loops, Headers, Memory}
+use Rattle.jop_cli.specs.declared.task.Task.{Task}
+use Rattle.jop_cli.specs.promises.Answers.{AnswersEnding, AnswersRefusal}
+use Rattle.jop_cli.specs.promises.Plan.{AreReadied}
 
 -- ---- the words
 

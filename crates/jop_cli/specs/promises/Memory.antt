@@ -1,32 +1,41 @@
--- What a call of `memory` shows that answers that its line is written, and what this promises of the runs of what is linked.
-use Rattle.std.specs.Prelude.{◌≡◌, ℕ, ◌+◌, ◌≤◌, ◌⊎◌, List, length, Ok}
-use Rattle.outside.specs.Outside.{Grew}
-use Rattle.outside.specs.Files.{AreFiles}
-use Rattle.image_file.specs.Bare.{BareContent, IsBareFile}
+-- What `memory` promises: the words that it tells suffice.
+use Rattle.std.specs.Prelude.{◌≡◌, ℕ, suc, ◌≤◌, List, Option, ◌+◌, ◌⊎◌, Ok, Vec, length}
+use Rattle.std.specs.declared.alloc.Global.{Global}
+use Rattle.command_line.specs.declared.command.Command.TheVariants.{Memory}
 use Rattle.bytecode_model.specs.declared.Ending.TheVariants.{Raising}
+use Rattle.bytecode_model.specs.State.{State}
+use Rattle.bytecode_model.specs.Program.{Limits}
 use Rattle.bytecode_model.specs.Effects.{fault_object, OutOfMemoryError, StackOverflowError}
-use Rattle.program_tables.specs.Resolved.{resolved}
-use Rattle.program_tables.specs.Resolving.{IsResolved}
+use Rattle.bytecode_model.specs.Steps.{run_from}
+use Rattle.bytecode_typing.specs.Typed.{Typing}
 use Rattle.memory_rules.specs.declared.needs.Need.{Need}
-use Rattle.memory_laws.specs.Promises.{StandsAtCall, StandsAtMaking, KeptSoFar}
+use Rattle.memory_laws.specs.Promises.{RunsFromBoot, StandsAtCall, StandsAtMaking, KeptSoFar}
+use Rattle.boundary.specs.Runs.{input_of}
+use Rattle.analysis_commands.specs.Memory.{IsNeed, IsMemoryRefusal, IsNotMet}
 use Rattle.boundary.specs.Setting.{limits}
 use Rattle.boundary.specs.Activations.{Stage}
-use Rattle.boundary.specs.Runs.{input_of}
-use Rattle.command_line.specs.declared.command.Settings.{Settings}
-use Rattle.command_line.specs.declared.command.Command.TheVariants.{Memory}
-use Rattle.command_line.specs.Command.{command_of}
-use Rattle.jopizer.specs.Linked.{Parts, IsLinked}
-use Rattle.analysis_commands.specs.Analysis.{bounds_of}
-use Rattle.analysis_commands.specs.Memory.{IsNeed}
-use Rattle.commands.specs.declared.outcome.Outcome.TheVariants.{Written}
-use Rattle.commands.specs.declared.show.Show.{Show}
-use Rattle.commands.specs.Line.{text_of_word}
-use Rattle.commands.specs.LinkedRun.{linked_setting}
+use Rattle.memory_rules.specs.declared.causes.NeedCause.{NeedCause}
+use Rattle.analysis_commands.specs.declared.memory.MemoryRefusal.{MemoryRefusal}
+use Rattle.analysis_commands.specs.declared.memory.MemoryRefusal.TheVariants.{NoMemory, NoNeed}
 use Rattle.commands.specs.Needs.{SaysNeed, SaysBareNeed}
-use Rattle.jop_cli.specs.Calls.{Call}
-use Rattle.jop_cli.specs.Courses.{RanLinked}
+use Rattle.jop_cli.specs.promises.Words.{ClassFile, resolved, bounds_of, Grew, Parts, text_of_word, Call, BareContent, IsBareFile, AreFiles, command_of}
+use Rattle.jop_cli.specs.promises.Words.{Written, IsResolved, Settings, IsLinked, Show, RanLinked, linked_setting}
 use Rattle.jop_cli.specs.promises.Images.{IsOpened}
 use Rattle.jop_cli.specs.promises.Runs.{RunGoesOn}
+
+-- ---- what `memory` promises
+
+-- With the words that `memory` tells each run of the program has room, ended or not: no invoke overflows where frames may take so many words; and where
+-- objects may take so many, no instruction that makes one lacks memory, as long as the loops in which objects are made kept the bounds, and no array was
+-- asked for that is longer than its line says.
+abbrev pub NeedsSuffice : Type 0
+NeedsSuffice =
+    (cs : List ClassFile) (bounds_text sizes_text : List ℕ) (need : Need) (is : IsNeed cs bounds_text sizes_text need) (types : Typing) (limits : Limits)
+    (input : ℕ → Option ℕ) (boot : State) (n : ℕ) → RunsFromBoot (resolved cs) types input boot
+    → let now = run_from (resolved cs) limits input boot n in let next = run_from (resolved cs) limits input boot (suc n) in
+    (need.stack ≤ limits.frames → StandsAtCall (resolved cs) now → ¬ (next.mode ≡ Raising (fault_object StackOverflowError)))
+    × (need.heap ≤ limits.heap → KeptSoFar (resolved cs) limits (bounds_of cs is.given.bounds) (bounds_of cs is.given.lengths) input boot n
+    → StandsAtMaking (resolved cs) now → ¬ (next.mode ≡ Raising (fault_object OutOfMemoryError)))
 
 -- ---- from the outcome alone
 
@@ -53,6 +62,26 @@ pub record ShowsNeed (c : Call) (image : ℕ) : Type 0 where
 
 abbrev pub NeedsAreShown : Type 0
 NeedsAreShown = (c : Call) (image bounds sizes : ℕ) → command_of c.words ≡ Ok (Memory image bounds sizes) → c.outcome ≡ Written → ShowsNeed c image
+
+-- ---- exactly
+
+-- the texts give one need
+abbrev pub NeedsAreOne : Type 0
+NeedsAreOne =
+    (cs : List ClassFile) (bounds_text sizes_text : List ℕ) (a b : Need) → IsNeed cs bounds_text sizes_text a → IsNeed cs bounds_text sizes_text b
+    → (a.stack ≡ b.stack) × (a.heap ≡ b.heap)
+
+-- where they give one, nothing refuses them: no line of a text, and no cause
+abbrev pub NeedsAreNotRefused : Type 0
+NeedsAreNotRefused =
+    (cs : List ClassFile) (bounds_text sizes_text : List ℕ) (need : Need) (refusal : MemoryRefusal) → IsNeed cs bounds_text sizes_text need
+    → IsMemoryRefusal cs bounds_text sizes_text refusal → refusal ≡ NoMemory
+
+-- one cause at most is right to answer
+abbrev pub NeedCausesAreTold : Type 0
+NeedCausesAreTold =
+    (cs : List ClassFile) (bounds_text sizes_text : List ℕ) (a b : NeedCause) (x y : Vec ℕ Global) → IsNotMet cs bounds_text sizes_text (NoNeed a x)
+    → IsNotMet cs bounds_text sizes_text (NoNeed b y) → a ≡ b
 
 -- ---- in the runs
 
