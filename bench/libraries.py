@@ -1,12 +1,12 @@
 #!/usr/bin/env python3
-"""bench/libraries.py [--jop FILE] [NAME..]: adapts pieces of libraries of Debian by tools/adapt, runs them, and compares what they put out with what a Java
+"""bench/libraries.py [--jop FILE] [--jars FOLDER] [NAME..]: adapts pieces of libraries of Debian by tools/adapt, runs them, and compares what they put out with what a Java
 virtual machine puts out; then bounds one method of each, checks the certificate, and tells what its dearest activation takes.
 
 Nothing of the libraries stands here: bench/libraries has the programs that call them. The loops get the least bounds that the run keeps, so
 a number holds for activations that keep those. It isn't in the gate. Packages:
 
     apt-get install default-jdk-headless libasm-java libcommons-codec-java libbcprov-java libjzlib-java libxz-java libcommons-compress-java \\
-        libguava-java libzxing-core-java
+        libguava-java libzxing-core-java liblz4-java libfastutil-java libnoggit-java
 """
 import argparse
 import bz2
@@ -40,9 +40,14 @@ import ordinary  # noqa: E402
 from caller import Caller  # noqa: E402
 from costs import Timing  # noqa: E402
 
-JAVA = "/usr/share/java/"
 TEXT = bytes(97 + (k * k >> 3) % 23 if k % 7 else 65 + k % 3 for k in range(700))
 LZMA1 = [{"id": lzma.FILTER_LZMA1, "dict_size": 4096, "lc": 3, "lp": 0, "pb": 2}]
+# 500 bytes that repeat with changes, packed by lz4 on a virtual machine; what it packs goes by the machine's order of bytes.
+LZ4 = bytes.fromhex("""
+    f508616263646566676869474e6c6d6e6f707172737475767717002f6a6b1700155f476768694e2e00160073000f5c00091f448a00041f49a1001219415c001748cf001248cf
+    0057457374754d17000fb80007114714017543757643616250b800124d2b01394375454500124c1700014201134b5901038a00134e170031626342700103170002cf003a4b61
+    492e00021700002e000573004a6d6e6f4217001a42b800114eb5011c455c0011771700037001506d6e6f7071
+""")
 CODEC, COMPRESS = "commons-codec", "commons-compress"
 # The program, the jar file, the method that is bounded (none of a program whose trace is long), and what it reads.
 PIECES = [
@@ -60,6 +65,18 @@ PIECES = [
     ("Bzip2", COMPRESS, "org/apache/commons/compress/compressors/bzip2/BZip2CompressorInputStream.createHuffmanDecodingTables(II)V",
      bz2.compress(TEXT, 1)),
     ("Mathematics", "guava", "com/google/common/math/IntMath.gcd(II)I", b""),
+    ("Sha256", "bcprov", "org/bouncycastle/crypto/digests/SHA256Digest.processBlock()V", b""),
+    ("Sha512", "bcprov", "org/bouncycastle/crypto/digests/LongDigest.processBlock()V", b""),
+    ("Sha3", "bcprov", "org/bouncycastle/crypto/digests/KeccakDigest.KeccakPermutation()V", b""),
+    ("Blake", "bcprov", "org/bouncycastle/crypto/digests/Blake2bDigest.compress([BI)V", b""),
+    ("Aes", "bcprov", "org/bouncycastle/crypto/engines/AESEngine.encryptBlock([BI[BI[[I)V", b""),
+    ("ChaCha", "bcprov", "org/bouncycastle/crypto/engines/ChaChaEngine.chachaCore(I[I[I)V", b""),
+    ("net/jpountz/lz4/Lz4", "lz4-java", "net/jpountz/lz4/LZ4JavaSafeFastDecompressor.decompress([BI[BII)I", LZ4),
+    ("IntMap", "fastutil", "it/unimi/dsi/fastutil/ints/Int2IntAVLTreeMap.get(I)I", b""),
+    ("Bases", CODEC, "org/apache/commons/codec/binary/Base64.encode([BIILorg/apache/commons/codec/binary/BaseNCodec$Context;)V", b""),
+    ("Hexes", CODEC, "org/apache/commons/codec/binary/Hex.decodeHex([C[BI)I", b""),
+    ("Json", "noggit", "org/noggit/JSONParser.nextEvent()I", b""),
+    ("Numbers", "guava", "com/google/common/primitives/UnsignedLongs.divide(JJ)J", b""),
     ("ReedSolomon", "core", "com/google/zxing/common/reedsolomon/GenericGF.multiply(II)I", b""),
 ]
 
@@ -68,6 +85,7 @@ def words():
     """what the command line asks for"""
     parser = argparse.ArgumentParser(description=__doc__, formatter_class=argparse.RawDescriptionHelpFormatter)
     parser.add_argument("--jop", default=f"{TOP}/crates/jop/out/jop", help="the program that is run")
+    parser.add_argument("--jars", default="/usr/share/java", help="where the libraries' jar files are")
     parser.add_argument("names", nargs="*", help="the pieces")
     return parser.parse_args()
 
@@ -80,13 +98,18 @@ def done(command, **more):
     return result.stdout
 
 
-def compiled(room, pieces):
+def jar_file(asked, jar):
+    """the file of a library"""
+    return os.path.join(asked.jars, f"{jar}.jar")
+
+
+def compiled(room, pieces, asked):
     """compiles the programs, and gives their folder"""
     host, classes = f"{room}/host", f"{room}/classes"
     options = ["--release", "8", "-g:source,lines", "-nowarn", "-Xlint:-options"]
     done(["javac", *options, "-d", host, f"{TOP}/tests/adapt/host/jop/Io.java"])
-    path = ":".join([host] + [f"{JAVA}{jar}.jar" for _, jar, _, _ in pieces])
-    done(["javac", *options, "-cp", path, "-d", classes, *[f"{HERE}/libraries/{name}.java" for name in ["Data"] + [each[0] for each in pieces]]])
+    path = ":".join([host] + [jar_file(asked, jar) for _, jar, _, _ in pieces])
+    done(["javac", *options, "-cp", path, "-d", classes, *[f"{HERE}/libraries/{os.path.basename(name)}.java" for name in ["Data"] + [each[0] for each in pieces]]])
     return classes
 
 
@@ -134,7 +157,7 @@ def bounded(tried, caller, timing, method):
     return f"{held.replace(method, 'bound')}, dearest of {len(taken)} takes {max(taken)}, {100 * max(taken) / number:.1f} %"
 
 
-def tell(piece, answer, room, classes, jop):
+def tell(piece, answer, room, classes, jop, asked):
     """the line of a piece"""
     name, jar, method, given = piece
     files, told = adapted(room, name, answer)
@@ -142,8 +165,8 @@ def tell(piece, answer, room, classes, jop):
     tried = Tried(name, name, files, given)
     if not tried.link(caller):
         raise RuntimeError(caller.link(name, files).line())
-    path = f"{classes}:{room}/host:{JAVA}{jar}.jar"
-    wanted = done(["java", "-cp", path, name], input=given)
+    path = f"{classes}:{room}/host:{jar_file(asked, jar)}"
+    wanted = done(["java", "-Dfile.encoding=ISO-8859-1", "-Dstdout.encoding=ISO-8859-1", "-cp", path, name], input=given)
     for blocks in (16, 64):
         timing = Timing(1, 2, blocks, 64)
         try:
@@ -153,23 +176,23 @@ def tell(piece, answer, room, classes, jop):
             if not str(fault).startswith("method too long"):
                 raise
     if out != wanted:
-        return f"{name}: puts out something else"
-    line = f"{name} of {jar}: {told}; {len(out)} bytes as wanted; {blocks} blocks"
+        raise RuntimeError("puts out something else")
+    line = f"{os.path.basename(name)} of {jar}: {told}; {len(out)} bytes as wanted; {blocks} blocks"
     return f"{line}; {method}: {bounded(tried, caller, timing, method)}" if method else line
 
 
 def main():
     asked = words()
-    pieces = [piece for piece in PIECES if not asked.names or piece[0] in asked.names]
+    pieces = [piece for piece in PIECES if not asked.names or os.path.basename(piece[0]) in asked.names]
     failed = 0
     with tempfile.TemporaryDirectory(prefix="jop-libraries-") as room:
-        jop = shutil.copy(asked.jop, f"{room}/jop")
-        classes = compiled(room, pieces)
-        calls = [[name, "-o", f"{room}/{name}", classes, f"{JAVA}{jar}.jar"] for name, jar, _, _ in pieces]
+        jop = os.environ["ADAPT_JOP"] = shutil.copy(asked.jop, f"{room}/jop")
+        classes = compiled(room, pieces, asked)
+        calls = [[name, "-o", f"{room}/{name}", classes, jar_file(asked, jar)] for name, jar, _, _ in pieces]
         answers = ordinary.batch(calls, room, [f"{TOP}/tools/adapt"])
         for piece, answer in zip(pieces, answers):
             try:
-                print(tell(piece, answer, room, classes, jop), flush=True)
+                print(tell(piece, answer, room, classes, jop, asked), flush=True)
             except RuntimeError as fault:
                 failed += 1
                 print(f"FAILED {piece[0]}: {fault}", flush=True)

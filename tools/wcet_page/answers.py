@@ -5,6 +5,8 @@ NUMBER = "(0|[1-9][0-9]*)"
 # A name is a word of a line: what lies between single spaces (rechecker/names.py).
 NAME = "([^ \n]+)"
 REMARK = re.compile(rf"# {NAME}:{NUMBER}")
+# From which lines control goes back to a header, wherever it is remarked.
+BACK = re.compile(r"# back from lines? [0-9, and]+")
 LOOP = re.compile(rf"(# )?{NAME} {NUMBER} loop<=({NUMBER[1:-1]})?")
 IRREDUCIBLE = re.compile(rf"# {NAME} irreducible((?: \d+r?)+)")
 UNNAMED = re.compile(rf"# method={NUMBER} unnamed")
@@ -52,6 +54,8 @@ class Headers:
         self.loops, self.irreducible, self.unnamed = [], [], []
         at = None
         for line in lines:
+            if BACK.fullmatch(line):
+                continue
             remark, loop = REMARK.fullmatch(line), LOOP.fullmatch(line)
             tangled, unnamed = IRREDUCIBLE.fullmatch(line), UNNAMED.fullmatch(line)
             if tangled:

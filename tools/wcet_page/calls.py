@@ -12,7 +12,8 @@ from .answers import lines_of, text_of
 from .words import MACHINE, RUN
 
 # The options that each command takes; those of a call of all shapes are without a shape.
-TAKES = {"run": RUN, "trace": RUN, "profile": RUN, "bound": MACHINE, "check": MACHINE, "report": MACHINE, "shapes": ("--read", "--write")}
+TAKES = {"run": RUN, "trace": RUN, "profile": RUN, "cycle": RUN, "bound": MACHINE, "check": MACHINE, "report": MACHINE, "plan": MACHINE,
+         "shapes": ("--read", "--write")}
 # Steps of the trace of a run that are gone through at most.
 STEPS = 3000000
 SECONDS = 1.0

@@ -3,9 +3,10 @@ import copy
 import json
 import os
 
+from .adapting import GIVEN, is_lacking
 from .folder import RECORD, inside
 from .study import FORM
-from .words import FILES, RUN, WrongWords, number
+from .words import FILES, MORE, RUN, WrongWords, number
 
 # The rules of messages that tell of the folder that is checked, and belong to no record.
 ABSENT, DIFFERS, PROGRAM = "absent", "differs", "program"
@@ -36,8 +37,26 @@ def asked_again(asked, kept, told):
     files = folder.part("files")
     again.inputs, again.bounds = folder.files(files.get("inputs")), folder.files(files.get("bounds"))
     again.files = {name: path for name in FILES if name[2:] in files for path in folder.files([files[name[2:]]])}
+    if "adapted" in kept:
+        adapted_again(again, folder, told)
+    if "table" in files:
+        again.rounds = folder.number("--rounds", folder.part("executive").get("rounds"), MORE)
     folder.files(kept.get("sources", []))
     return again
+
+
+def adapted_again(again, folder, told):
+    """takes what was adapted: it is adapted anew where the programs are here, else what was linked is taken as it is"""
+    part, lack = folder.part("adapted"), is_lacking()
+    files = {each: path for each in folder.named(part.get("files")) for path in folder.files([{"path": each}])}
+    if lack:
+        told.warn(PROGRAM, f"not adapted anew, so that given/classes come of given/{GIVEN} isn't checked: {lack}", RECORD)
+        again.adapted = folder.kept, files
+        return
+    again.adapts, again.classes = True, [os.path.join(again.check, each) for each in folder.texts(part.get("classpath"))]
+    again.elements = None if part.get("elements") is None else folder.number("--elements", part["elements"], MORE)
+    again.asserts, again.bounds = part.get("assert") is True, again.bounds[1:]
+    again.files.pop("--report", None)
 
 
 class Reading:
@@ -63,14 +82,20 @@ class Reading:
             raise self.wrong("names of a main class and of methods are wanted")
         return found
 
-    def number(self, name, value):
+    def number(self, name, value, known=RUN):
         """an option as the command line takes it"""
-        if name not in RUN or type(value) is not int:
+        if name not in known or type(value) is not int:
             raise self.wrong(f"option {name}: {value!r} is no number of an option")
         try:
             return number(name, str(value))
         except WrongWords as fault:
             raise self.wrong(f"option {fault}") from None
+
+    def named(self, found):
+        """the places of a list of files"""
+        if not isinstance(found, list) or not all(isinstance(each, dict) for each in found):
+            raise self.wrong("lists of files are wanted")
+        return self.texts([each.get("path") for each in found])
 
     def files(self, found):
         """the paths of files that a record names, where they are in the folder"""

@@ -5,8 +5,10 @@ import sys
 import tempfile
 
 from . import checking, differences, sarif
+from .adapting import Lacking
 from .calls import Jop, step
 from .classes import digest
+from .config import WrongFile
 from .folder import PAGE, RECORD, UNFINISHED, Folder, finish, put, require_own
 from .messages import ERROR, Messages, relative
 from .page import page
@@ -24,6 +26,11 @@ def answer(words):
             print("wcet: jop not found: build it (README.md), put it on the path, or name it by --jop", file=sys.stderr)
             return MISSING
         return make(asked) if asked.check is None else check(asked)
+    except Lacking as fault:
+        print(fault, file=sys.stderr)
+        return MISSING
+    except WrongFile as fault:
+        fault.told.put()
     except WrongWords as fault:
         print(f"wcet: {fault}; tools/wcet --help says how it is used", file=sys.stderr)
     except OSError as fault:

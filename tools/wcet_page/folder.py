@@ -41,6 +41,12 @@ class Folder:
         place = self.keep(kind, re.sub(r"[^\w.$+-]", "_", os.path.basename(path)), path, data)
         return {"path": place, "sha256": digest(data)}
 
+    def tell_by_copies(self, room):
+        """gives files of a folder that doesn't last the paths of their copies"""
+        for place, path in self.paths.items():
+            if path.startswith(room + os.sep):
+                self.paths[place] = os.path.join(self.path, place)
+
 
 def put(folder, place, data):
     """makes a file, and the folders above it"""

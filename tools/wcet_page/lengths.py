@@ -20,17 +20,24 @@ class Lengths:
 
     def __init__(self, study):
         self.study, self.methods, self.told = study, study.methods, study.told
-        self.given = {}
-        self.by_line = {}
+        self.given, self.by_line, self.made, self.noted = {}, {}, {}, {}
         for m in range(len(self.methods.names)):
             for place in makers(self.methods.program.body(m)["code"]) if self.methods.is_own(m) else ():
-                self.by_line.setdefault(self.methods.at(m, place), []).append((self.methods.names[m], place))
+                at, key = self.methods.at(m, place), (self.methods.names[m], place)
+                if at is None:  # of a method that was made: the arrays are those of the lines that call it
+                    self.made[key] = self.callers(m)
+                for each in [at] if at else self.made[key]:
+                    self.by_line.setdefault(each, []).append(key)
 
     def take(self):
         """takes the notes of the sources, and the lines of the file of --sizes; puts them as one text"""
         for source in self.study.sources.values():
             for note in notes.read(source, notes.LENGTH)[0]:
                 self.take_note(source, note)
+        for key, found in self.noted.items():
+            if len(found) == len(self.made[key]):
+                for source, note in found:
+                    self.add(key, note.bound, "note", source.path, note.at)
         given = self.study.files.get("sizes")
         if given:
             self.take_file(given["path"])
@@ -44,7 +51,10 @@ class Lengths:
             text = f"stale note: no array is made at line {note.line}{hint}"
             self.told.error("stale", text, source.path, note.at, notes.AT, "write it on the line of the `new`")
         for key in found:
-            self.add(key, note.bound, "note", source.path, note.at)
+            if key in self.made:
+                self.noted.setdefault(key, []).append((source, note))
+            else:
+                self.add(key, note.bound, "note", source.path, note.at)
 
     def take_file(self, path):
         with open(os.path.join(self.study.folder, path), "rb") as file:
@@ -63,8 +73,14 @@ class Lengths:
         """the text that `memory` reads: of several lengths the least"""
         return "".join(f"{row}\n" for row in map(self.row, self.given))
 
+    def length(self, key):
+        """what all say together: of several that are said of one array the least, of several lines that call a method that was made the greatest"""
+        notes_of = [each["length"] for each in self.given[key] if each["by"] == "note"]
+        others = [each["length"] for each in self.given[key] if each["by"] != "note"]
+        return min(others + ([max(notes_of)] if notes_of and key in self.made else notes_of))
+
     def row(self, key):
-        return f"{key[0]} {key[1]} length<={min(each['length'] for each in self.given[key])}"
+        return f"{key[0]} {key[1]} length<={self.length(key)}"
 
     def record(self):
         """each length as it goes into the record"""
@@ -73,7 +89,7 @@ class Lengths:
             name, place = key
             m = self.methods.number.get(name)
             file, line = (self.methods.at(m, place) if m is not None else None) or (None, None)
-            length = answers.figure(min(each["length"] for each in by), self.row(key), SIZES)
+            length = answers.figure(self.length(key), self.row(key), SIZES)
             found.append({"method": name, "place": place, "file": file, "line": line, "length": length, "by": by})
         return found
 
@@ -91,19 +107,28 @@ class Lengths:
         return found
 
     def tell(self, found):
-        """tells of arrays without a length; of one that a made method makes, at the first line that calls it"""
+        """tells of arrays without a length; of one that a made method makes, at the lines that call it and say none"""
         for name, place in found:
-            m = self.methods.number[name]
-            at = self.methods.at(m, place) or self.caller(m)
-            cure = CURE if self.methods.at(m, place) and self.methods.is_own(m) else f"say how long it is at most, in a file of --sizes: `{name} {place} length<=N`"
-            text = f"array without a greatest length, so no memory is told ({name} {place})"
-            self.told.warn("length", text, *self.study.shown(at), r"\bnew\b", cure)
+            m, by_place = self.methods.number[name], f"say how long it is at most, in a file of --sizes: `{name} {place} length<=N`"
+            at, said = self.methods.at(m, place), [(source.file, note.line) for source, note in self.noted.get((name, place), [])]
+            made = "" if at else ", made by tools/adapt for this line"
+            text = f"array without a greatest length, so no memory is told ({name} {place}{made})"
+            for each in [at] if at else [each for each in self.made.get((name, place), []) if each not in said] or [None]:
+                cure = CURE if each and each[0] in self.study.sources else by_place
+                self.told.warn("length", text, *self.study.shown(each), r"\bnew\b|\.clone\b", cure)
 
-    def caller(self, m):
-        """the file and the line of the first call of a method that has no lines"""
-        own = ((caller, called) for caller, called in enumerate(self.methods.program.called) if self.methods.is_own(caller))
-        calls = ((caller, place) for caller, called in own for place, targets in sorted(called.items()) if m in targets)
-        return next(filter(None, (self.methods.at(*call) for call in calls)), None)
+    def callers(self, m):
+        """the files and the lines of the calls of a method that has no lines, those of calls by others that have none among them"""
+        found, todo, done = set(), [m], set()
+        while todo:
+            callee = todo.pop()
+            done.add(callee)
+            for caller, called in enumerate(self.methods.program.called):
+                for at in [self.methods.at(caller, place) for place, targets in called.items() if callee in targets]:
+                    if at is None and caller not in done:
+                        todo.append(caller)
+                    found |= {at} - {None}
+        return sorted(found)
 
 
 def makers(code):

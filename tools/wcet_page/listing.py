@@ -50,14 +50,23 @@ def others_of(method, methods):
 
 
 def rows(method, methods, source):
-    """the lines of a method: number, code, and the rows of its report; `gap` where lines are left out before"""
+    """the lines of a method: number, code, the rows of its report, what they take with what is called from them, and how often runs visited them;
+    `gap` where lines are left out before"""
     own = [row for row in method["report"]["rows"] if row["method"] == method["method"] and row["file"] is not None] if "report" in method else []
-    by_line = {row["at"]: row for row in own}
-    most = max((row["cycles"]["value"] for row in own), default=0)
+    by_line, together = {row["at"]: row for row in own}, {line: each for each in method.get("together", []) for line in each["lines"]}
+    most = max([*(each["cycles"] for each in together.values()), 1])
     code, made, before = coloured(source.text), [], None
     for line in shown_lines(method, others_of(method, methods), source):
-        row = by_line.get(line)
-        part = 100 * row["cycles"]["value"] / most if row and most else 0
-        made.append({"line": line, "code": code[line - 1], "row": row, "part": part, "gap": before is not None and line > before + 1})
+        row, part = by_line.get(line), together.get(line)
+        own_part = 100 * row["cycles"]["value"] / most if row else 0
+        rest = 100 * part["cycles"] / most - own_part if part and is_alone(part) else 0
+        seen = [each["lines"].get(str(line)) for each in method.get("visited", [])]
+        made.append({"line": line, "code": code[line - 1], "row": row, "part": own_part, "rest": rest, "together": part, "seen": sum(filter(None, seen)),
+                     "gap": before is not None and line > before + 1})
         before = line
     return made
+
+
+def is_alone(part):
+    """whether nothing else calls what is called from a line"""
+    return len(part["lines"]) + len(part["places"]) == 1

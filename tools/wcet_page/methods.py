@@ -3,7 +3,7 @@ import re
 
 from rechecker.texts import read_certificate
 
-from . import answers
+from . import answers, together
 from .answers import figure
 from .classes import digest
 from .folder import CERTIFICATES, put
@@ -63,7 +63,7 @@ class Bounded:
         found = {"method": name, "number": m, "file": file, "line": line, "lines": self.methods.lines(m), "own": self.methods.is_own(m),
                  "asked": m in self.asked, "within": m in self.within, "bound": bound, "cause": cause, "seen": [], "checked": False}
         if m in self.shown:
-            found["calls"] = self.calls(m)
+            found["calls"], found["visited"] = self.calls(m), []
             if bound["value"] != "none":
                 self.certify(found)
             elif cause == "recursion":
@@ -90,6 +90,7 @@ class Bounded:
         self.settle(found, checks)
         found["turns"] = turns_of(text, found["number"])
         found["report"] = self.report(name)
+        found["together"] = together.lines_of(found["number"], name, found["report"], self.methods)
 
     def settle(self, found, checks):
         """whether the bound is that of a certificate that both checkers hold"""

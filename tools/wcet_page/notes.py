@@ -51,6 +51,18 @@ def find(file, folders):
     return next(filter(os.path.isfile, paths), None)
 
 
+def kept_source(study, file):
+    """the place of a copy of a source by its name, none where it isn't at hand"""
+    path = find(file, study.asked.sources) if file else None
+    if path is None:
+        return None
+    with open(path, "rb") as opened:
+        data = opened.read()
+    place = next((place for place, kept in study.kept.paths.items() if kept == path), None) or study.kept.keep("sources", file, path, data)
+    study.told.lines[place] = Source(file, place, data).lines
+    return place
+
+
 def comments(text):
     """the comments of a text of Java: the line on which each begins, its words, and the text with blanks in place of all comments"""
     found, parts, at = [], [], 0

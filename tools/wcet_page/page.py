@@ -1,16 +1,18 @@
 """The page of a record: what is worked out for it (shares and ratios alone), and its templates. Not proved: a tool."""
 import os
-import re
 
 from jinja2 import Environment, FileSystemLoader, StrictUndefined
 from markupsafe import Markup
 
 from . import listing, messages, pictures
+from .titles import Titles
 from .words import USUAL
 
 TEMPLATES = os.path.join(os.path.dirname(os.path.realpath(__file__)), "templates")
 GROUPS = {"own": "its own lines", "calls": "lines of what it calls", "loads": "loads of the method cache", "invoke": "the invoke",
           "return": "the load on return"}
+# The packages of the classes of library/, and of those that tools/adapt makes beside them.
+LIBRARY = ("java/", "javax/", "jop/")
 # Words of the stack on chip that hold no frames (docs/commands.md, memory).
 SAVED = 80
 MACHINE = {
@@ -24,11 +26,6 @@ def fig(figure):
     value = figure["value"]
     text = f"{value:,}" if isinstance(value, int) else {"never": "never ends", "none": "none"}.get(value, value)
     return Markup('<data value="{}" title="{}\n{}">{}</data>').format(value, figure["line"], figure["command"], text)
-
-
-def parted(name):
-    """a method's name, which breaks behind its separators alone"""
-    return Markup("<wbr>").join(re.split(r"(?<=[/.;(,$])|(?=\()", name))
 
 
 def worked(text, why):
@@ -61,6 +58,11 @@ class Drawn:
 
     def has_page(self):
         return "calls" in self.method
+
+    @property
+    def is_of_library(self):
+        """whether it is of the packages of library/"""
+        return self.method["own"] and self.method["method"].startswith(LIBRARY)
 
     def segments(self):
         """the parts of its number: a row of its report each, its own first"""
@@ -103,7 +105,7 @@ def nest(loops, inner):
 
 def environment():
     made = Environment(loader=FileSystemLoader(TEMPLATES), autoescape=True, trim_blocks=True, lstrip_blocks=True, undefined=StrictUndefined)
-    made.globals.update(fig=fig, parted=parted, worked=worked, share=share, shown=messages.shown, beneath=messages.beneath)
+    made.globals.update(fig=fig, worked=worked, is_alone=listing.is_alone, share=share, shown=messages.shown, beneath=messages.beneath)
     made.globals.update(saved=SAVED, machine=MACHINE, patterns=pictures.PATTERNS, style=text_of("style.css"), script=text_of("sort.js"))
     made.globals.update(nest=lambda loops: nest(loops, lambda loop: loop["inner"]))
     return made
@@ -126,5 +128,7 @@ def page(record, sources, sha256):
     for each in drawn:
         for number, _ in each.callees():
             callers.setdefault(number, []).append(each)
-    template = environment().get_template("page.html")
+    made = environment()
+    made.globals.update(parted=Titles(by_name))
+    template = made.get_template("page.html")
     return template.render(record=record, sha256=sha256, methods=drawn, by_name=by_name, callers=callers, options=options, plot=plot)

@@ -11,17 +11,17 @@ from .words import nearest
 PARTS = re.compile(r"(file|method|field|pc|entry|why|name|item|major|rule|count|limit)=((?:(?! [a-z]+=).)*)")
 ADAPT = "tools/adapt replaces it"
 FIXED = "write int in fixed point"
-# What isn't supported, in the words of Java, and what to do.
+# What isn't supported, in the words of Java, what to do, and what of the line is meant.
 ITEMS = [
-    (r"lmul", "long multiplication", ADAPT),
-    (r"ldiv", "long division", ADAPT),
-    (r"lrem", "long remainder", ADAPT),
-    (r"ldc class", "class literal, as `enum` and `assert` have it", ADAPT),
-    (r"invokedynamic", "lambda, method reference or string +", ADAPT),
-    (r"multianewarray", "array of arrays made at once", ADAPT),
-    (r"interface code", "method of an interface with code", ADAPT),
-    (r"native", "native method", "write a method with code; `jop.Io` is the only way out"),
-    (r"descriptor (F|D)|.*(float|double)|[fd]([acdmnrs][a-z]+.*|load.*|return)|[ilfd]2[fd]|[fd]2[il]", "float or double", FIXED),
+    (r"lmul", "long multiplication", ADAPT, r"(?<!/)\*(?!/)"),
+    (r"ldiv", "long division", ADAPT, r"(?<![/*])/(?![/*])"),
+    (r"lrem", "long remainder", ADAPT, r"%"),
+    (r"ldc class", "class literal, as `enum` and `assert` have it", ADAPT, r"[\w.]+\.class\b|\bassert\b|\benum\b"),
+    (r"invokedynamic", "lambda, method reference or string +", ADAPT, r"->|::|\+"),
+    (r"multianewarray", "array of arrays made at once", ADAPT, r"\bnew\b"),
+    (r"interface code", "method of an interface with code", ADAPT, None),
+    (r"native", "native method", "write a method with code; `jop.Io` is the only way out", r"\bnative\b"),
+    (r"descriptor (F|D)|.*(float|double)|[fd]([acdmnrs][a-z]+.*|load.*|return)|[ilfd]2[fd]|[fd]2[il]", "float or double", FIXED, r"\b(float|double)\b"),
 ]
 MAIN = b"main", b"([Ljava/lang/String;)V"
 VERSIONS = 44  # the major version of a class file, less that of its Java
@@ -40,20 +40,26 @@ def tell(study, files, said):
         cure = "compile it by javac --release 8, or hand it to tools/adapt"
         study.told.error("link", f"class file of Java {int(parts['major']) - VERSIONS}", file.place, cure=cure)
     else:
-        text, cure = words_of(kind, parts, said, files)
-        Told(study, file).tell(parts, text, cure)
+        text, cure, near = words_of(kind, parts, said, files)
+        Told(study, file).tell(parts, text, cure, near)
 
 
 def words_of(kind, parts, said, files):
-    """what is refused, and what to do"""
+    """what is refused, what to do, and what of the line is meant"""
     if kind == "unsupported":
         found = next((each for each in ITEMS if re.fullmatch(each[0], parts["item"])), None)
-        return found[1:] if found else (f"unsupported: {parts['item']}", "docs/java.md has what to write instead")
+        return found[1:] if found else (f"unsupported: {parts['item']}", "docs/java.md has what to write instead", None)
     if kind == "unresolved":
-        return unresolved(parts, {each.name for each in files})
+        return *unresolved(parts, {each.name for each in files}), named_word(parts.get("name", ""))
     if kind == "duplicate":
-        return f"a second class {parts['name']}", "hand in one of them"
-    return said, "docs/refusals.md has what it means"
+        return f"a second class {parts['name']}", "hand in one of them", None
+    return said, "docs/refusals.md has what it means", None
+
+
+def named_word(name):
+    """the word by which a source names a class or a member"""
+    word = name.partition("(")[0].rpartition(".")[2].rpartition("/")[2].rpartition("$")[2].strip("[;")
+    return rf"\b{re.escape(word)}\b" if word and word != "<init>" else r"\bnew\b"
 
 
 def unresolved(parts, names):
@@ -88,7 +94,7 @@ class Told:
     def __init__(self, study, file):
         self.study, self.file, self.read = study, file, file.read
 
-    def tell(self, parts, text, cure):
+    def tell(self, parts, text, cure, near):
         method, place = self.place(parts)
         line = None if method is None or place is None or "code" not in method else line_at(method, self.read, place)
         name = f" ({written(method['name'] + method['descriptor'])})" if method else ""
@@ -97,7 +103,7 @@ class Told:
             where = f"{name[:-1]}, line {line})" if line is not None else name
             self.study.told.error("link", f"{text}{where}", self.file.place, cure=cure)
         else:
-            self.study.told.error("link", f"{text}{name}", source, line, cure=cure)
+            self.study.told.error("link", f"{text}{name}", source, line, near, cure)
 
     def place(self, parts):
         """the method, and the place in its code, that are told; or those of the first instruction that names an entry"""
@@ -119,12 +125,4 @@ class Told:
 
     def source(self):
         """the place of a copy of the source, none where it isn't at hand"""
-        file = source_file(self.read)
-        path = notes.find(file, self.study.asked.sources) if file else None
-        if path is None:
-            return None
-        with open(path, "rb") as opened:
-            data = opened.read()
-        place = self.study.kept.keep("sources", file, path, data)
-        self.study.told.lines[place] = notes.Source(file, place, data).lines
-        return place
+        return notes.kept_source(self.study, source_file(self.read))

@@ -1,8 +1,9 @@
-"""How often loops go round in a run, counted in its trace. Not proved: a tool.
+"""How often loops go round in a run, and instructions are run, counted in its trace. Not proved: a tool.
 
 `jop trace` puts a line before each step. In a frame a loop is stayed in as long as the steps are at its nodes; each time that
 its header comes again, a back edge was taken.
 """
+from collections import Counter
 
 
 class Loop:
@@ -37,17 +38,39 @@ def watched(loops):
 
 
 def count(steps, loops):
-    """the most turns of each loop that is entered, by method's name and header, and how many steps there were"""
-    known, frames, total = watched(loops), [], 0
+    """the most turns of each loop that is entered, by method's name and header; how many steps there were; and how often each instruction was run,
+    by method's name and place"""
+    known, frames, total, visits = watched(loops), [], 0, Counter()
     for line in steps:
         _, _, step = line.partition(b" ")
         parts = step.rsplit(b" ", 4)
         if len(parts) < 5:  # a byte that is put out
             continue
         name, place, word, depth, total = *parts[:3], int(parts[3].partition(b"=")[2]), total + 1
+        visits[name, place, word == b"raise"] += 1
         del frames[depth:]
         while len(frames) < depth:
             frames.append(Frame(known.get(name.decode("utf-8", "surrogateescape"), ())))
         if frames[-1].loops:
             frames[-1].step((int(place), word == b"raise"))
-    return {loop.key: loop.most for found in known.values() for loop in found if loop.most is not None}, total
+    turns = {loop.key: loop.most for found in known.values() for loop in found if loop.most is not None}
+    return turns, total, by_method(visits)
+
+
+def by_method(visits):
+    """how often each instruction was run, by its method's name and its place"""
+    found = {}
+    for (name, place, is_raise), count in visits.items():
+        if not is_raise:
+            found.setdefault(name.decode("utf-8", "surrogateescape"), {})[int(place)] = count
+    return found
+
+
+def by_line(places, line_of):
+    """how often lines were run: the first instruction of each that was"""
+    found = {}
+    for place in sorted(places):
+        line = line_of(place)
+        if line is not None:
+            found.setdefault(str(line), places[place])
+    return found

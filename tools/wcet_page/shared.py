@@ -12,6 +12,15 @@ APART = "give each loop a line and a note of its own: put a statement in front o
 STRING = re.compile(r'"""(?:\\.|[^\\])*?"""|"(?:\\.|[^"\\\n])*"|\'(?:\\.|[^\'\\\n])*\'', re.S)
 TOKEN = re.compile(r"[A-Za-z_$][\w$]*|\S")
 
+# A field that is always true, so that a test of it has no code.
+ALWAYS = re.compile(r"\bfinal\s+(?:\w+\s+)*boolean\s+([\w$]+)\s*=\s*true\s*[;,]")
+
+
+def plain_text(text):
+    """a source without comments, its texts as zeros"""
+    _, code = notes.comments(text)
+    return STRING.sub(lambda found: re.sub(r"[^\n]", "0", found[0]), "\n".join(code))
+
 
 class Head:
     """the head of a loop: its word, the lines of it, whether a test stands in it and a start before the test, and the token behind it"""
@@ -22,12 +31,12 @@ class Head:
 
 
 class Java:
-    """the tokens of a source, and the heads of its loops by the number of their first token; a test of which no line has code is a constant"""
+    """the tokens of a source, and the heads of its loops by the number of their first token; a test of which no line has code is a constant,
+    and so is one that names a field which is always true"""
 
-    def __init__(self, text, is_code=lambda line: True):
-        self.is_code = is_code
-        _, code = notes.comments(text)
-        plain = STRING.sub(lambda found: re.sub(r"[^\n]", "0", found[0]), "\n".join(code))
+    def __init__(self, text, is_code=lambda line: True, always=frozenset()):
+        self.is_code, self.once = is_code, set()
+        plain = plain_text(text)
         ends = [place for place, each in enumerate(plain) if each == "\n"]
         self.tokens, self.lines, line = [], [], 0
         for token in TOKEN.finditer(plain):
@@ -35,23 +44,27 @@ class Java:
                 line += 1
             self.tokens.append(token[0])
             self.lines.append(line + 1)
+        self.always = always | set(ALWAYS.findall(plain))
         closing = self.closing()
-        self.heads = {at: self.head(at) for at, word in enumerate(self.tokens) if word in ("do", "while", "for") and at not in closing}
+        heads = (at for at, word in enumerate(self.tokens) if word in ("do", "while", "for") and at not in closing | self.once)
+        self.heads = {at: self.head(at) for at in heads}
 
     def closing(self):
-        """the tokens `while` that end a `do`"""
+        """the tokens `while` that end a `do`; `once` has those `do` that end with `while (false)`, which are no loops"""
         found, braces, pending = set(), [], []
         for at, word in enumerate(self.tokens):
             before = self.tokens[at - 1] if at else ""
             if word == "do":
-                pending.append(len(braces))
+                pending.append((len(braces), at))
             elif word == "{":
                 braces.append(before == "do")
             elif word == "}" and braces:
                 braces.pop()
-            elif word == "while" and pending and pending[-1] == len(braces) and before in ("}", ";"):
-                pending.pop()
+            elif word == "while" and pending and pending[-1][0] == len(braces) and before in ("}", ";"):
+                _, do = pending.pop()
                 found.add(at)
+                if self.tokens[at + 1:at + 4] == ["(", "false", ")"]:
+                    self.once.add(do)
         return found
 
     def head(self, at):
@@ -71,16 +84,20 @@ class Java:
             end += 1
         last = self.lines[min(end, len(self.lines) - 1)]
         if word == "while":
-            is_tested = parts[0] != ["true"] and any(map(self.is_code, range(line, last + 1)))
+            is_tested = not self.is_always(parts[0]) and any(map(self.is_code, range(line, last + 1)))
             return Head(word, line, last, is_tested, False, end + 1)
         if len(parts) == 1:  # over the elements of an array: the array is taken first
             return Head(word, line, last, True, True, end + 1)
-        return Head(word, line, last, bool(parts[1]), bool(parts[0]), end + 1)
+        return Head(word, line, last, bool(parts[1]) and not self.is_always(parts[1]), bool(parts[0]), end + 1)
+
+    def is_always(self, test):
+        """whether a test is `true`, or the name of a field that always is, as one may stand behind the name of its class"""
+        return test == ["true"] or bool(test) and test[-1] in self.always and all(each == "." or each.isidentifier() for each in test)
 
     def body(self, at):
         """the first token of what stands at a token, braces and labels left out"""
         while at < len(self.tokens):
-            if self.tokens[at] == "{":
+            if self.tokens[at] == "{" or at in self.once:
                 at += 1
             elif self.tokens[at + 1:at + 2] == [":"] and self.tokens[at][0].isidentifier():
                 at += 2
@@ -139,7 +156,8 @@ class Loops:
 
 def tell(lines, sources, loops, told):
     """tells of each line of bounds that is said of a line of a source at which two loops begin"""
-    begun = {file: list(Java(source.text, loops.code_lines(file).__contains__).together()) for file, source in sources.items()}
+    always = {name for source in sources.values() for name in ALWAYS.findall(plain_text(source.text))}
+    begun = {file: list(Java(source.text, loops.code_lines(file).__contains__, always).together()) for file, source in sources.items()}
     for each in lines:
         where = each.text.rpartition(" loop<=")[0]
         file, _, line = where.rpartition(":")

@@ -2,9 +2,11 @@
 import os
 import re
 import shlex
+import tempfile
 from concurrent.futures import ThreadPoolExecutor
+from contextlib import ExitStack
 
-from . import against, answers, premises, programs, refusals, runs, shared
+from . import adapting, against, answers, executive, premises, programs, refusals, runs, shared
 from .calls import step
 from .classes import collected, digest
 from .deadlines import Deadlines
@@ -16,7 +18,7 @@ from .methods import Bounded
 
 IMAGE, NOTES, BOUNDS, SIZES = "wcet.jopi", "wcet.notes", "wcet.bounds", "wcet.sizes"
 # The form of a record.
-FORM = 2
+FORM = 3
 THREADS = min(4, os.cpu_count() or 1)
 
 
@@ -35,12 +37,15 @@ class Study:
 
     def run(self):
         """the record, as far as it comes"""
-        self.take()
-        if self.link():
+        with ExitStack() as self.room:
+            self.take()
+        if (self.classes or not self.asked.adapts) and self.link():
             self.methods = Methods(read(self.folder, IMAGE))
             self.suppose()
             self.bound()
             self.observe()
+            with step("planning slots"):
+                self.record["executive"] = executive.planned(self, [(each["path"], read(self.folder, each["path"])) for each in self.inputs])
             self.need()
         return self.record
 
@@ -51,17 +56,31 @@ class Study:
 
     def take(self):
         """copies what was handed in; sources follow where the classes are known"""
-        keep = self.kept.keep_file
-        self.inputs = [keep("inputs", path) for path in self.asked.inputs]
-        self.bounds = [keep("bounds", path) for path in self.asked.bounds]
-        self.files = {name[2:]: keep(name[2:], path) for name, path in self.asked.files.items()}
-        self.classes, told = collected(self.asked.classes, self.kept)
+        keep, asked = self.kept.keep_file, self.asked
+        classes, bounds, files = asked.classes, asked.bounds, asked.files
+        if asked.adapts:
+            made = self.adapt()
+            classes, bounds = made.classes, [*made.bounds, *bounds]
+            files = {**files, "--report": made.report} if made.report else files
+        elif asked.adapted:
+            adapting.taken_over(self)
+        self.inputs = [keep("inputs", path) for path in asked.inputs]
+        self.bounds = [keep("bounds", path) for path in bounds]
+        self.files = {name[2:]: keep(name[2:], path) for name, path in files.items()}
+        self.classes, told = collected(classes, self.kept)
+        if asked.adapts:
+            self.kept.tell_by_copies(made.out)
         for rule, text, place in told:
             self.told.remark(rule, text, place)
         self.deadlines = Deadlines(self)
         self.record["asked"] = {"methods": self.asked.methods, "source": bool(self.asked.sources)}
         self.record["files"] = {"inputs": self.inputs, "bounds": self.bounds, **self.files}
         self.record["classes"] = [each.record() for each in self.classes]
+
+    def adapt(self):
+        """adapts what was handed in; the paths of what is made are those of its copies"""
+        with step("adapting"):
+            return adapting.Adapted(self, self.room.enter_context(tempfile.TemporaryDirectory(prefix="jop-adapt-")))
 
     # ---- the image
 
@@ -149,10 +168,14 @@ class Study:
             if name in by_name:
                 by_name[name]["seen"].append({"input": path, **figures})
         with open(os.path.join(self.folder, path), "rb") as given:
-            turns, steps = runs.count(self.jop.steps(IMAGE, given), self.nodes)
+            turns, steps, visits = runs.count(self.jop.steps(IMAGE, given), self.nodes)
         for loop in self.record["loops"]:
             if key(loop) in turns:
                 loop["seen"].append({"input": path, "turns": turns[key(loop)]})
+        for name, places in visits.items():
+            m = self.methods.number.get(name)
+            if m is not None and "visited" in by_name.get(name, ()):
+                by_name[name]["visited"].append({"input": path, "lines": runs.by_line(places, lambda place, m=m: self.methods.line(m, place))})
         said = answers.pairs(answer.line, answer.command)
         self.record["runs"].append({"input": path, "line": answer.line, "figures": said, "steps": steps})
 

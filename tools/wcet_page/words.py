@@ -9,10 +9,15 @@ MACHINE = {"--blocks": (1, 256), "--block-words": (1, 1024), "--read": (0, 63), 
 RUN = {"--cycles": (0, 2**63 - 1), "--stack": (256, 1024), "--memory": (16, 16777216), **MACHINE}
 # Where they aren't given.
 USUAL = {"--cycles": 1000000000, "--stack": 1024, "--memory": 262144, "--blocks": 16, "--block-words": 64, "--read": 1, "--write": 2}
+# The numbers of the executive and of tools/adapt, and all numbers.
+MORE = {"--rounds": (1, 32767), "--elements": (1, 2**31 - 1)}
+NUMBERS = {**RUN, **MORE}
 # Options with the names of the files that they take, at most once each.
-FILES = ("--sizes", "--report", "--deadlines", "--against")
-ONCE = ("--main", *FILES, "--out", "--sarif", "--jop", "--check")
+FILES = ("--sizes", "--report", "--deadlines", "--against", "--table")
+ONCE = ("--main", *FILES, "--out", "--sarif", "--jop", "--config", "--check")
 OFTEN = ("--source", "--bounds", "--input", "--method")
+# Options without a value.
+FLAGS = ("--adapt", "--assert")
 # How alike a name is to one that may be meant.
 ALIKE = 0.8
 # What may stand beside --check.
@@ -24,44 +29,80 @@ class WrongWords(Exception):
 
 
 class Asked:
-    """what the words ask for"""
+    """what the words ask for, and what a file of options does that they don't say"""
 
     def __init__(self, words):
-        self.once, self.often, self.options = {}, {name: [] for name in OFTEN}, {}
-        at = 0
-        while at < len(words) and words[at].startswith("--"):
-            self.take(words[at], words[at + 1] if at + 1 < len(words) else None)
-            at += 2
-        self.classes = words[at:]
-        self.main, self.check, self.sarif = (self.once.get(name) for name in ("--main", "--check", "--sarif"))
+        self.once, self.often, self.numbers, self.flags = {}, {name: [] for name in OFTEN}, {}, set()
+        while words and words[0].startswith("--"):
+            words = words[self.take(words[0], words[1] if len(words) > 1 else None):]
+        self.classes, self.check = list(words), self.once.get("--check")
+        self.require_check()
+        if self.check is None:
+            self.fill()
+        self.main, self.sarif = self.once.get("--main"), self.once.get("--sarif")
         self.files = {name: self.once[name] for name in FILES if name in self.once}
         self.sources, self.bounds, self.inputs, self.methods = (self.often[name] for name in OFTEN)
+        self.options = {name: value for name, value in self.numbers.items() if name in RUN}
+        self.adapts, self.asserts, self.adapted = "--adapt" in self.flags, "--assert" in self.flags, None
+        self.rounds, self.elements = self.numbers.get("--rounds"), self.numbers.get("--elements")
         self.out = self.once.get("--out", None if self.check else "wcet")
         self.require_whole()
         self.jop = self.found_jop()
 
     def take(self, name, value):
-        """an option and its value"""
-        if name not in ONCE and name not in OFTEN and name not in RUN:
-            raise WrongWords(f"no option {name}{nearest(name, [*ONCE, *OFTEN, *RUN])}")
+        """takes an option and its value, and gives how many words they are"""
+        if name in FLAGS:
+            if name in self.flags:
+                raise WrongWords(f"{name} comes twice")
+            self.flags.add(name)
+            return 1
+        if name not in ONCE and name not in OFTEN and name not in NUMBERS:
+            raise WrongWords(f"no option {name}{nearest(name, [*ONCE, *OFTEN, *FLAGS, *NUMBERS])}")
         if value is None or value == "":
             raise WrongWords(f"{name} lacks its value")
         if name in OFTEN:
             self.often[name].append(value)
-        elif name in self.once or name in self.options:
+        elif name in self.once or name in self.numbers:
             raise WrongWords(f"{name} comes twice")
         elif name in ONCE:
             self.once[name] = value
         else:
-            self.options[name] = number(name, value)
+            self.numbers[name] = number(name, value)
+        return 2
+
+    def fill(self):
+        """takes of the file of options what the words don't say"""
+        from . import config  # which has its names from here
+        path = self.once.get("--config")
+        if path is None and not os.path.exists(config.NAME):
+            return
+        for name, value in config.read(path or config.NAME).items():
+            if name in FLAGS:
+                self.flags |= {name} if value else set()
+            elif name in OFTEN:
+                self.often[name] = self.often[name] or value
+            elif name in NUMBERS:
+                self.numbers.setdefault(name, value)
+            elif name == "--" + config.CLASSES:
+                self.classes = self.classes or value
+            else:
+                self.once.setdefault(name, value)
+
+    def require_check(self):
+        """beside --check there is nothing that it doesn't take"""
+        if self.check is not None and (self.numbers or self.flags or self.classes or any(self.often.values()) or set(self.once) - CHECK):
+            raise WrongWords("--check goes with --jop, --out and --sarif alone")
 
     def require_whole(self):
-        """what a call needs is there, and nothing that it doesn't take"""
-        if self.check is not None:
-            if self.options or self.classes or any(self.often.values()) or set(self.once) - CHECK:
-                raise WrongWords("--check goes with --jop, --out and --sarif alone")
-        elif self.main is None or not self.classes:
-            raise WrongWords("--main NAME and CLASSES are wanted")
+        """what a call needs is there, and goes together"""
+        if self.check is None and (self.main is None or not self.classes):
+            raise WrongWords("--main NAME and CLASSES are wanted, here or in wcet.toml")
+        if ("--table" in self.files) != (self.rounds is not None):
+            raise WrongWords("--table and --rounds go together")
+        if "--adapt" not in self.flags and (self.elements is not None or "--assert" in self.flags):
+            raise WrongWords("--elements and --assert go with --adapt")
+        if "--adapt" in self.flags and "--report" in self.files:
+            raise WrongWords("--adapt makes the report itself: leave --report out")
         for path in [*self.classes, *self.sources, *self.bounds, *self.inputs, *self.files.values()]:
             if not os.path.exists(path):
                 raise WrongWords(f"{path}: not found")
@@ -81,7 +122,7 @@ def nearest(name, names):
 
 def number(name, text):
     """the number of an option, within its range"""
-    least, most = RUN[name]
+    least, most = NUMBERS[name]
     if not (text.isascii() and text.isdigit() and str(int(text)) == text and least <= int(text) <= most):
         raise WrongWords(f"{name}: a number from {least} to {most} is wanted")
     if name == "--stack" and int(text) not in (256, 512, 1024):

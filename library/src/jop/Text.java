@@ -1,6 +1,9 @@
 package jop;
 
 import java.io.Serializable;
+import java.io.UnsupportedEncodingException;
+import java.nio.charset.Charset;
+import java.util.Iterator;
 
 /** Chars that can be put together at run time, with the methods of String under their names. */
 public final class Text implements Serializable, CharSequence, Comparable<Text>, EqualsMethod, HashCodeMethod, ToTextMethod {
@@ -35,6 +38,31 @@ public final class Text implements Serializable, CharSequence, Comparable<Text>,
         Copies.copy(chars, first, this.chars, 0, count);
     }
 
+    /** The chars of bytes, in the default charset. */
+    public Text(byte[] bytes) {
+        this(bytes, 0, bytes.length);
+    }
+
+    public Text(byte[] bytes, int first, int count) {
+        this(bytes, first, count, Charset.defaultCharset());
+    }
+
+    public Text(byte[] bytes, Charset charset) {
+        this(bytes, 0, bytes.length, charset);
+    }
+
+    public Text(byte[] bytes, int first, int count, Charset charset) {
+        this(null, Encodings.decode(bytes, first, count, charset));
+    }
+
+    public Text(byte[] bytes, Text charset) throws UnsupportedEncodingException {
+        this(bytes, 0, bytes.length, charset);
+    }
+
+    public Text(byte[] bytes, int first, int count, Text charset) throws UnsupportedEncodingException {
+        this(bytes, first, count, named(charset));
+    }
+
     private Text(String literal, char[] chars) {
         this.literal = literal;
         this.chars = chars;
@@ -48,6 +76,37 @@ public final class Text implements Serializable, CharSequence, Comparable<Text>,
     /** The String that it was made of, null where it was put together at run time. */
     public String literal() {
         return literal;
+    }
+
+    /** A text of chars that nobody else writes into. */
+    static Text owning(char[] chars) {
+        return new Text(null, chars);
+    }
+
+    private static Charset named(Text name) throws UnsupportedEncodingException {
+        Charset found = CharsetNames.find(name);
+        if (found == null) {
+            throw new UnsupportedEncodingException();
+        }
+        return found;
+    }
+
+    /** The bytes in the default charset. */
+    public byte[] getBytes() {
+        return getBytes(Charset.defaultCharset());
+    }
+
+    public byte[] getBytes(Charset charset) {
+        return Encodings.encode(chars(), charset);
+    }
+
+    public byte[] getBytes(Text charset) throws UnsupportedEncodingException {
+        return getBytes(named(charset));
+    }
+
+    /** The chars of a sequence, `null` for null; nobody may write into them. */
+    public static char[] toChars(CharSequence sequence) {
+        return (sequence == null ? of("null") : copyOf(sequence)).chars();
     }
 
     public static Text valueOf(boolean value) {
@@ -351,6 +410,103 @@ public final class Text implements Serializable, CharSequence, Comparable<Text>,
             }
         }
         return new Text(null, copy);
+    }
+
+    /** Each part, from the front on, in another one's place. */
+    public Text replace(CharSequence part, CharSequence other) {
+        char[] mine = chars();
+        char[] old = copyOf(part).chars();
+        char[] by = copyOf(other).chars();
+        StringBuilder made = new StringBuilder();
+        int place = 0;
+        while (place < mine.length) { //@WCA loop=64 elements
+            boolean isThere = old.length <= mine.length - place && sameChars(mine, place, old, 0, old.length);
+            if (isThere) {
+                made.append(by);
+            }
+            if (!isThere || old.length == 0) {
+                made.append(mine[place]);
+            }
+            place += isThere && old.length > 0 ? old.length : 1;
+        }
+        if (old.length == 0) {
+            made.append(by);
+        }
+        return made.toText();
+    }
+
+    /** The parts with another text between each two. */
+    public static Text join(CharSequence between, CharSequence... parts) {
+        StringBuilder made = new StringBuilder();
+        char[] chars = copyOf(between).chars();
+        for (int i = 0; i < parts.length; i++) { //@WCA loop=64 elements
+            if (i > 0) {
+                made.append(chars);
+            }
+            made.append(toChars(parts[i]));
+        }
+        return made.toText();
+    }
+
+    public static Text join(CharSequence between, Iterable<? extends CharSequence> parts) {
+        StringBuilder made = new StringBuilder();
+        char[] chars = copyOf(between).chars();
+        Iterator<? extends CharSequence> each = parts.iterator();
+        boolean isFirst = true;
+        while (each.hasNext()) { //@WCA loop=64 elements
+            if (!isFirst) {
+                made.append(chars);
+            }
+            made.append(toChars(each.next()));
+            isFirst = false;
+        }
+        return made.toText();
+    }
+
+    /** As `java.util.Formatter` says, of `%d %s %x %X %c %b %n %%` with a width, `-` and `0`. */
+    public static Text format(Text pattern, Object... values) {
+        return Formats.format(pattern.chars(), values);
+    }
+
+    /** Whether all of it fits a pattern, as `Patterns` knows them. */
+    public boolean matches(Text pattern) {
+        return new Patterns(pattern.chars()).end(chars(), 0) == length();
+    }
+
+    public Text replaceAll(Text pattern, Text by) {
+        return new Patterns(pattern.chars()).replace(chars(), by.chars(), Integer.MAX_VALUE);
+    }
+
+    public Text replaceFirst(Text pattern, Text by) {
+        return new Patterns(pattern.chars()).replace(chars(), by.chars(), 1);
+    }
+
+    /** The parts between what fits a pattern, without empty ones at the end. */
+    public Text[] split(Text pattern) {
+        return split(pattern, 0);
+    }
+
+    /** At most so many parts; all where the number isn't positive, and without empty ones at the end where it is 0. */
+    public Text[] split(Text pattern, int limit) {
+        return new Patterns(pattern.chars()).split(this, chars(), limit);
+    }
+
+    /** The code point at a place: a pair of surrogates, or a char. */
+    public int codePointAt(int place) {
+        char high = charAt(place);
+        if (!Character.isHighSurrogate(high) || place + 1 >= length() || !Character.isLowSurrogate(charAt(place + 1))) {
+            return high;
+        }
+        return Character.toCodePoint(high, charAt(place + 1));
+    }
+
+    /** The order without regard to the case of letters below 128. */
+    public int compareToIgnoreCase(Text other) {
+        return toLowerCase().compareTo(other.toLowerCase());
+    }
+
+    public boolean regionMatches(boolean isAnyCase, int place, Text other, int start, int count) {
+        return isAnyCase ? toLowerCase().regionMatches(place, other.toLowerCase(), start, count) : regionMatches(place, other, start, count);
     }
 
     /** Without the chars up to the blank at both ends. */

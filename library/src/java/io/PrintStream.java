@@ -134,4 +134,22 @@ public class PrintStream extends OutputStream {
         print(value);
         return this;
     }
+
+    /** Prints what `String.format` makes. */
+    public PrintStream printf(String pattern, Object... values) {
+        return printf(Text.of(pattern), values);
+    }
+
+    public PrintStream printf(Text pattern, Object... values) {
+        print(Text.format(pattern, values));
+        return this;
+    }
+
+    public PrintStream format(String pattern, Object... values) {
+        return printf(Text.of(pattern), values);
+    }
+
+    public PrintStream format(Text pattern, Object... values) {
+        return printf(pattern, values);
+    }
 }

@@ -243,4 +243,27 @@ public final class Character implements Serializable, Comparable<Character>, Equ
     public static char reverseBytes(char value) {
         return (char) (value << 8 | value >> 8);
     }
+
+    /** Whether a name in Java may begin with it; of chars below 256. */
+    public static boolean isJavaIdentifierStart(int point) {
+        return isLetter(point) || point == '_' || point == '$' || point >= 0xa2 && point <= 0xa5;
+    }
+
+    /** Whether a name in Java may go on with it; of chars below 256. */
+    public static boolean isJavaIdentifierPart(int point) {
+        return isJavaIdentifierStart(point) || isDigit(point) || isIdentifierIgnorable(point);
+    }
+
+    /** Whether names pass over it; of chars below 256. */
+    public static boolean isIdentifierIgnorable(int point) {
+        return point >= 0 && point <= 8 || point >= 14 && point <= 27 || point >= 0x7f && point <= 0x9f || point == 0xad;
+    }
+
+    public static boolean isJavaIdentifierStart(char value) {
+        return isJavaIdentifierStart((int) value);
+    }
+
+    public static boolean isJavaIdentifierPart(char value) {
+        return isJavaIdentifierPart((int) value);
+    }
 }

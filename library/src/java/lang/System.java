@@ -4,6 +4,7 @@ import java.io.InputStream;
 import java.io.PrintStream;
 import jop.Copies;
 import jop.StandardInput;
+import jop.Strings;
 
 /** The methods of System that need nothing outside of the program, and the standard input and output. */
 public final class System {
@@ -39,5 +40,30 @@ public final class System {
     /** 0 of null, and 1 of each other object: the machine doesn't tell where an object stands. */
     public static int identityHashCode(Object object) {
         return object == null ? 0 : 1;
+    }
+
+    /** Of a few names: the system is called `jop`, lines end with a line feed, and Java is 1.8; null of any other one. */
+    public static String getProperty(String name) {
+        if (name.length() == 0) {
+            throw new IllegalArgumentException();
+        }
+        if (Strings.equals(name, "os.arch") || Strings.equals(name, "os.name")) {
+            return "jop";
+        }
+        if (Strings.equals(name, "java.version") || Strings.equals(name, "java.specification.version")) {
+            return "1.8";
+        }
+        return Strings.equals(name, "line.separator") ? "\n" : Strings.equals(name, "file.separator") ? "/" : null;
+    }
+
+    /** The property, or another string where there is none. */
+    public static String getProperty(String name, String other) {
+        String found = getProperty(name);
+        return found == null ? other : found;
+    }
+
+    /** A line feed. */
+    public static String lineSeparator() {
+        return "\n";
     }
 }

@@ -15,6 +15,87 @@ public final class Collections {
         return new FixedList<T>(new Object[] {element});
     }
 
+    public static <T> Set<T> emptySet() {
+        return (Set<T>) UnmodifiableSet.EMPTY;
+    }
+
+    public static <K, V> Map<K, V> emptyMap() {
+        return (Map<K, V>) UnmodifiableMap.EMPTY;
+    }
+
+    public static <T> Iterator<T> emptyIterator() {
+        return new FixedIteration<T>(new Object[0]);
+    }
+
+    public static <T> Set<T> singleton(T element) {
+        HashSet<T> held = new HashSet<T>(2);
+        held.add(element);
+        return new UnmodifiableSet<T>(held);
+    }
+
+    public static <K, V> Map<K, V> singletonMap(K key, V value) {
+        HashMap<K, V> held = new HashMap<K, V>(2);
+        held.put(key, value);
+        return new UnmodifiableMap<K, V>(held);
+    }
+
+    /** A list that shows another one, and can't be changed. Raises UnsupportedOperationException for one that isn't below AbstractList. */
+    public static <T> List<T> unmodifiableList(List<? extends T> list) {
+        Objects.requireNonNull(list);
+        if (list instanceof UnmodifiableList) {
+            return (List<T>) list;
+        }
+        if (!(list instanceof AbstractList)) {
+            throw new UnsupportedOperationException();
+        }
+        return new UnmodifiableList<T>((AbstractList<T>) list);
+    }
+
+    /** A set that shows another one, and can't be changed. Raises UnsupportedOperationException for one that isn't below AbstractSet. */
+    public static <T> Set<T> unmodifiableSet(Set<? extends T> set) {
+        Objects.requireNonNull(set);
+        if (set instanceof UnmodifiableSet) {
+            return (Set<T>) set;
+        }
+        if (!(set instanceof AbstractSet)) {
+            throw new UnsupportedOperationException();
+        }
+        return new UnmodifiableSet<T>((AbstractSet<T>) set);
+    }
+
+    /** A map that shows a HashMap, and can't be changed. Raises UnsupportedOperationException for one that is none. */
+    public static <K, V> Map<K, V> unmodifiableMap(Map<? extends K, ? extends V> map) {
+        Objects.requireNonNull(map);
+        if (map instanceof UnmodifiableMap) {
+            return (Map<K, V>) map;
+        }
+        if (!(map instanceof HashMap)) {
+            throw new UnsupportedOperationException();
+        }
+        return new UnmodifiableMap<K, V>((HashMap<K, V>) map);
+    }
+
+    /** The list itself, since there is one thread. */
+    public static <T> List<T> synchronizedList(List<T> list) {
+        Objects.requireNonNull(list);
+        return list;
+    }
+
+    public static <T> Set<T> synchronizedSet(Set<T> set) {
+        Objects.requireNonNull(set);
+        return set;
+    }
+
+    public static <T> Collection<T> synchronizedCollection(Collection<T> all) {
+        Objects.requireNonNull(all);
+        return all;
+    }
+
+    public static <K, V> Map<K, V> synchronizedMap(Map<K, V> map) {
+        Objects.requireNonNull(map);
+        return map;
+    }
+
     public static <T> List<T> nCopies(int count, T element) {
         if (count < 0) {
             throw new IllegalArgumentException();
@@ -81,6 +162,11 @@ public final class Collections {
             found = next.compareTo(found) < 0 ? next : found;
         }
         return found;
+    }
+
+    /** The order against another one, or against that of `compareTo` where it is null. */
+    public static <T> Comparator<T> reverseOrder(Comparator<T> order) {
+        return order == null ? new ReverseOrder<T>() : new ReversedOrder<T>(order);
     }
 
     public static <T> Comparator<T> reverseOrder() {

@@ -1,5 +1,6 @@
 package adapt.change;
 
+import adapt.classes.ClassOfClasses;
 import adapt.classes.CoreClasses;
 import org.objectweb.asm.Label;
 import org.objectweb.asm.MethodVisitor;
@@ -70,6 +71,16 @@ final class ClassFiles {
         }
         to.visitMethodInsn(Opcodes.INVOKESPECIAL, CLASS, "<init>", isText ? "(Ljop/Text;)V" : "(Ljava/lang/String;)V", false);
         to.visitFieldInsn(Opcodes.PUTSTATIC, TABLE, field, TYPE);
+    }
+
+    /** Keeps in the object of a class its number, and the digits that tell which classes it is, or stands below. */
+    static void addOrder(MethodVisitor to, String field, int number, String above) {
+        to.visitFieldInsn(Opcodes.GETSTATIC, TABLE, field, TYPE);
+        to.visitLdcInsn(number);
+        to.visitFieldInsn(Opcodes.PUTFIELD, CLASS, ClassOfClasses.NUMBER, "I");
+        to.visitFieldInsn(Opcodes.GETSTATIC, TABLE, field, TYPE);
+        to.visitLdcInsn(above);
+        to.visitFieldInsn(Opcodes.PUTFIELD, CLASS, ClassOfClasses.ABOVE, "Ljava/lang/String;");
     }
 
     /** Raises a new exception. */

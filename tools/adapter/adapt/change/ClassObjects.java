@@ -1,5 +1,6 @@
 package adapt.change;
 
+import adapt.classes.ClassOfClasses;
 import adapt.classes.CoreClasses;
 import adapt.classes.LoadedClass;
 import adapt.classes.Origin;
@@ -87,7 +88,21 @@ public final class ClassObjects implements Change {
         MethodNode initialiser = table.method("<clinit>", "()V");
         initialiser.instructions.clear();
         fields.forEach((name, field) -> ClassFiles.addMaking(initialiser, shown(name), field.name, program.isText));
+        if (reach.isRun(program.find(ClassOfClasses.NAME).method("isAssignableFrom", ClassOfClasses.IS_ASSIGNABLE))) {
+            addOrder(initialiser);
+        }
         initialiser.visitInsn(Opcodes.RETURN);
+    }
+
+    /** Tells each object which classes its own one is, or stands below. */
+    private void addOrder(MethodNode initialiser) {
+        int number = 0;
+        for (Map.Entry<String, FieldNode> each : fields.entrySet()) {
+            StringBuilder above = new StringBuilder();
+            fields.keySet().forEach(other -> above.append(reach.isBelow(each.getKey(), other) ? '1' : '0'));
+            ClassFiles.addOrder(initialiser, each.getValue().name, number, above.toString());
+            number++;
+        }
     }
 
     /** Classes before those that they stand below. */

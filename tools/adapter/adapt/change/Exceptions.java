@@ -62,7 +62,7 @@ public final class Exceptions implements Change {
             method.instructions.insert(call, before);
             method.instructions.remove(call);
         }
-        program.report.replace(Code.place(owner, method, call), "cause or trace of an exception", "nothing");
+        program.report.replace(Code.place(owner, method, call), "cause, trace or index of an exception", "nothing");
     }
 
     /** Whether there is a constructor; those of the linker take strings. */
@@ -77,6 +77,10 @@ public final class Exceptions implements Change {
             if (program.strings == Strings.MESSAGES) {
                 program.report.note("the message of an exception that is made of a cause alone is null");
             }
+            before.add(new InsnNode(Opcodes.POP));
+            return "()V";
+        }
+        if (descriptor.equals("(I)V")) {
             before.add(new InsnNode(Opcodes.POP));
             return "()V";
         }

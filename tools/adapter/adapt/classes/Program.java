@@ -75,6 +75,7 @@ public final class Program {
         }
         if (origin == Origin.LIBRARY) {
             LibraryDefaults.add(node, isText, options.elements());
+            LibraryDefaults.add(node, library.find(LibraryDefaults.DEFAULTS), isText);
         }
         keep(new LoadedClass(node.name.equals(name) ? node : ClassFiles.renamed(node, name), origin));
     }

@@ -203,6 +203,15 @@ public final class Reach {
         return below;
     }
 
+    /** Whether a class or an array class is another one, or stands below it. */
+    public boolean isBelow(String below, String above) {
+        if (below.startsWith("[") && above.startsWith("[")) {
+            return below.equals(above) || isArrayBelow(below, above);
+        }
+        boolean isOfArrays = above.equals("java/lang/Cloneable") || above.equals("java/io/Serializable");
+        return below.startsWith("[") ? isOfArrays || above.equals("java/lang/Object") : !above.startsWith("[") && program.isBelow(program.find(below), above);
+    }
+
     /** Lets all classes name the elements of array classes. */
     public void open(List<String> names) {
         for (String name : names) {

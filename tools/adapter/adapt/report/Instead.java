@@ -13,20 +13,11 @@ public final class Instead {
     public static final String MISSING_CLASS = "its folder or jar file on the class path";
     private static final String ONE_THREAD = "one thread; `synchronized` links and has nothing to wait for";
     private static final String FOR = "a `for` loop";
-    private static final String SEARCH = "a loop over `indexOf` and `substring`";
     private static final String CLOCK = "a count of the program's own; there is no clock";
     private static final Map<String, String> MEMBERS = Map.ofEntries(
             entry("java/lang/System.err", "`System.out`"), entry("java/lang/System.exit", "a return from `main`"),
             entry("java/lang/System.currentTimeMillis", CLOCK), entry("java/lang/System.nanoTime", CLOCK),
-            entry("java/lang/System.lineSeparator", "`\"\\n\"`"), entry("java/lang/System.getProperty", "a constant"),
-            entry("java/io/PrintStream.printf", "`print` and `println`"), entry("java/io/PrintStream.format", "`print` and `println`"),
-            entry("java/lang/String.format", "string `+`"), entry("java/lang/String.join", "a loop over `StringBuilder.append`"),
-            entry("java/lang/String.split", SEARCH), entry("java/lang/String.replaceAll", SEARCH), entry("java/lang/String.replaceFirst", SEARCH),
-            entry("java/lang/String.matches", "a loop over `charAt`"),
-            entry("java/lang/Iterable.forEach", FOR), entry("java/util/ArrayList.forEach", FOR), entry("java/util/Iterator.forEachRemaining", FOR),
-            entry("java/util/Collection.stream", FOR), entry("java/util/Collection.removeIf", "an Iterator and its `remove`"),
-            entry("java/util/ArrayList.removeIf", "an Iterator and its `remove`"),
-            entry("java/util/List.sort", "`Arrays.sort` of an array"), entry("java/util/ArrayList.sort", "`Arrays.sort` of an array"),
+            entry("java/lang/Iterable.spliterator", FOR), entry("java/util/Collection.stream", FOR),
             entry("java/util/Random.nextDouble", "`nextInt`"), entry("java/util/Random.nextFloat", "`nextInt`"),
             entry("java/util/Random.nextGaussian", "`nextInt`"),
             entry("java/lang/Object.getClass", "`instanceof`, or a method that each class overrides"),
@@ -43,7 +34,6 @@ public final class Instead {
         {"java/lang/String", "a loop over `charAt`"},
         {"java/util/LinkedHashMap", "`HashMap`"}, {"java/util/TreeMap", "`HashMap`, and `Arrays.sort` of its keys"},
         {"java/util/LinkedHashSet", "`HashSet`"}, {"java/util/TreeSet", "`HashSet`, and `Arrays.sort` of its elements"},
-        {"java/util/LinkedList", "`ArrayList`"}, {"java/util/ArrayDeque", "`ArrayList`"},
         {"java/util/stream/", FOR}, {"java/util/regex/", "a loop over `charAt`"},
         {"java/util/Scanner", "`System.in.read()`"}, {"java/io/BufferedReader", "`System.in.read()`"}, {"java/io/Reader", "`System.in.read()`"},
         {"java/io/File", "`System.in` and `System.out`"}, {"java/nio/file/", "`System.in` and `System.out`"},

@@ -1,0 +1,30 @@
+package java.util;
+
+/** Elements one after another, of which none can be removed. */
+final class FixedIteration<E> implements Iterator<E> {
+    private final Object[] elements;
+    private int place;
+
+    FixedIteration(Object[] elements) {
+        this.elements = elements;
+    }
+
+    @Override
+    public boolean hasNext() {
+        return place < elements.length;
+    }
+
+    @Override
+    public E next() {
+        if (place >= elements.length) {
+            throw new NoSuchElementException();
+        }
+        place++;
+        return (E) elements[place - 1];
+    }
+
+    @Override
+    public void remove() {
+        throw new UnsupportedOperationException();
+    }
+}
