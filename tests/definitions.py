@@ -6,7 +6,7 @@ import os
 import re
 
 TOP = os.path.dirname(os.path.dirname(os.path.realpath(__file__)))
-ANSWER, CLAUSE, PROCESS = "crates/jop_cli/specs/Answer.antt", "Answered", "crates/jop_cli/specs/Process.antt"
+ANSWER, CLAUSE, PROCESS = "crates/jop_cli/specs/Answer.antt", "Answered", "crates/jop/specs/Answers.antt"
 USE = re.compile(r"^(?:ghost |pub )?use Rattle\.([a-z_0-9]+)\.specs\.([\w.'-]+?)(?:\.\{([^}]*)\}|(?: as (\w+))?);?$", re.M)
 HEAD = re.compile(r"^(?:abbrev |unfoldable )*(?:pub )?(?:record |data )?([^\s:({]+)(?= ?[:({])")
 INNER = re.compile(r"^  (?:pub )?(?:record |data )([^\s:({]+)")

@@ -14,6 +14,7 @@ from rechecker.class_files import read_class
 from wcet_page import initialisers, notes, shared
 
 import browser
+import build
 import changes
 from tool import CONTROLLER, HERE, TOP, Made, differ, page_faults, put
 
@@ -122,6 +123,7 @@ def promised(jop, folder):
     yield from differ("both kinds", {None, "at most 2560 elements", "at most 32 tries"}, set(came.values()))
     yield from page_faults(made)
     text = made.page().text()
+    yield from differ("the library's methods apart", True, "methods of the library's classes" in text)
     for number, promise in wanted.items():
         shown = re.search(rf"file \(given/bounds/bounds:{number}\)(?:, promise: (at most \d+ \w+))?", text)
         yield from differ(f"what is shown of line {number}", promise, shown and shown[1])
@@ -280,8 +282,8 @@ def link_refused(jop, folder):
         put(f"{folder}/Sizes.class", (lambda data: data[:6] + b"\0=" + data[8:])(file.read()))
     yield from differ("javac 17", [1, "Sizes.class: error: class file of Java 17", "  compile it by javac --release 8, or hand it to tools/adapt"], list(told("--main", "Sizes", "Sizes.class")))
     tank = f"{HERE}/classes/plant/Tank.class"
-    yield from differ("a class that isn't there", [1, f"src/plant/Tank.java:26:9: error: class plant/Range isn't there (main([Ljava/lang/String;)V)",
-                                                  "        Io.write(sum(levels(Range.least(Io.read(), MOST))));", "        ^", "  hand in its class file"],
+    yield from differ("a class that isn't there", [1, f"src/plant/Tank.java:26:29: error: class plant/Range isn't there (main([Ljava/lang/String;)V)",
+                                                  "        Io.write(sum(levels(Range.least(Io.read(), MOST))));", " " * 28 + "^", "  hand in its class file"],
                       list(told("--main", "plant.Tank", "--source", f"{HERE}/src", tank)))
     classes = f"{HERE}/classes/plant"
     yield from differ("another main", [1, "wcet: error: --main plant/Tanks: no class of this name is handed in; is plant/Tank meant?", "  main is that of plant/Tank"],
@@ -344,7 +346,7 @@ def makefile(jop, folder):
     if not shutil.which("make"):
         yield "skipped makefile: make is missing (apt-get install make)"
         return
-    shutil.copytree(CONTROLLER, f"{folder}/controller", ignore=shutil.ignore_patterns("wcet"))
+    shutil.copytree(CONTROLLER, f"{folder}/controller", ignore=shutil.ignore_patterns("wcet", "own", "host"))
 
     def made():
         words = ["make", f"WCET={TOP}/tools/wcet --jop {jop}", "wcet/wcet.html"]
@@ -592,5 +594,5 @@ def many_digits(jop, folder):
         yield from browser.page_faults(f"{made.out}/wcet.html", folder)
 
 
-CASES = [in_a_browser, many_digits, controller, options, two_inputs, same_twice, starting, promised, longs, faults, two_loops, heads_of_loops, broken, refused, lengths, link_refused, misled, interchange, unfinished, makefile, deadlines, since, wrong_words, moved,
+CASES = [*build.CASES, in_a_browser, many_digits, controller, options, two_inputs, same_twice, starting, promised, longs, faults, two_loops, heads_of_loops, broken, refused, lengths, link_refused, misled, interchange, unfinished, makefile, deadlines, since, wrong_words, moved,
          *map(change_rows, range(changes.PARTS)), other_programs, comments, rings, written_names, line_separator, odd_names]

@@ -139,6 +139,8 @@ ROWS = [
     ("checked", assign(own, "checked", False), "checked: recorded false, found true"),
     ("the report of a method", record(lambda kept: own(kept)["report"]["rows"].pop()), "report rows"),
     ("visits", assign(lambda kept: own(kept)["report"]["rows"][0]["visits"], "value", 99), "visits: recorded 99"),
+    ("lines with what they call", assign(lambda kept: own(kept)["together"][0], "cycles", 1), "together"),
+    ("lines that a run visited", record(lambda kept: own(kept)["visited"].clear()), "visited"),
     ("a call", record(lambda kept: method(kept, "plant/Tank.main")["calls"].pop()), "calls"),
     ("the line of a method", assign(own, "line", 1), "line: recorded 1"),
     ("a method", record(lambda kept: kept["methods"].remove(own(kept))), "plant/Tank.sum([I)I: recorded nothing"),

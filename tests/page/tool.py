@@ -51,7 +51,7 @@ class Made:
         words = words[:words.index("<")] if "<" in words else words
         with open(os.path.join(self.out, given), "rb") as source:
             ran = subprocess.run([self.jop if words[0] == "jop" else f"{TOP}/{words[0]}", *words[1:]], cwd=self.out, stdin=source, capture_output=True, check=False)
-        out = b"" if words[1] == "link" else ran.stdout
+        out = b"" if words[1] in ("link", "cycle") else ran.stdout
         return lines_of((out + ran.stderr).decode("utf-8", "replace"))
 
 
