@@ -24,6 +24,7 @@ use Rattle.commands.specs.BareFile.{ImageFault}
 use Rattle.commands.specs.LinkedFile.{BytesFault}
 use Rattle.jop_cli.specs.Calls.{Call, LacksMemory}
 use Rattle.jop_cli.specs.promises.Answers.{AnswersEnding, AnswersRefusal}
+use Rattle.jop_cli.specs.promises.Images.{NoImageIsBoth}
 use Rattle.jop_cli.specs.promises.Refusals.{IsNoImage, BadImagesAreRefused, UnlinkedImagesAreRefused, DifferingImagesAreRefused}
 use Rattle.jop_cli.proofs.Wholly.{IsWholly, wholly, lacks}
 use Rattle.jop_cli.proofs.LinkingLaw.{refuses}
@@ -36,6 +37,9 @@ pub not_both : (bytes : List ℕ) → is_linked bytes ≡ true → is_linked byt
 not_both bytes begins not_begins =
     let clash : true ≡ false = sym begins ∙ not_begins in
     absurd (cc)
+
+pub no_image_is_both : NoImageIsBoth
+no_image_is_both bytes l image is_file bare = not_both bytes (begins_linked bytes (image_of l) is_file) (begins_bare bytes image bare)
 
 -- ---- the first difference
 

@@ -46,3 +46,6 @@ mod ShownTexts
 mod ShownProfiles
 pub mod HeldLines
 mod OneNeed
+mod OneLoops
+mod OnePlan
+mod OneHeaders

@@ -5,8 +5,8 @@
 -- conditions (bound_rules), and of this crate Answer, Calls, Courses.
 -- `link`: class files that nothing refuses are linked, and their image is put; what refuses them is answered, and is one; what is answered is so.
 pub use Rattle.jop_cli.specs.promises.Link.{LinkingIsComplete, LinkRefusalsAreAnswered, LinkRefusalsAreOne, LinkedImagesAreShown}
--- Bytes are those of one linked image, or of one bare one.
-pub use Rattle.jop_cli.specs.promises.Images.{OneLinkedImage, OneBareImage}
+-- Bytes are those of one linked image, or of one bare one, and not of both.
+pub use Rattle.jop_cli.specs.promises.Images.{OneLinkedImage, OneBareImage, NoImageIsBoth}
 -- `run`, `trace`: the run of an image is that of its program by the definition of the bytecode, on the machine, and the trace is of that run, which is one.
 pub use Rattle.jop_cli.specs.promises.Run.{RunsAreTheBytecodes, TracesAreTheRuns, RunsAreOne, BareRunsAreTheBytecodes, BareTracesAreTheRuns}
 -- From the answer alone: which image was run, and that the boundary to which the run came is one of it.
@@ -24,14 +24,17 @@ pub use Rattle.jop_cli.specs.promises.Activations.{BoundsHoldInRuns, CheckedRuns
 pub use Rattle.jop_cli.specs.promises.Report.{ReportsAddUp, ReportsAreKept}
 -- `profile`: the lines are those of the run, and the bounds in them are kept by the numbers beside them.
 pub use Rattle.jop_cli.specs.promises.Profile.{ProfilesAreComplete, ProfilesAreShown, ProfilesAreKept}
--- `plan`: what is linked with the executive has it; a plan is answered, and its bounds are kept.
-pub use Rattle.jop_cli.specs.promises.Plan.{ExecutivesAreThere, PlansAreAnswered, PlansAreKept}
+-- `plan`: what is linked with the executive has it; a plan is answered, is one, and its bounds are kept.
+pub use Rattle.jop_cli.specs.promises.Plan.{ExecutivesAreThere, PlansAreAnswered, PlansAreKept, PlansAreOne}
 -- `cycle`: it is a run of the executive; where there is a plan, slots keep their lengths, and none is late.
 pub use Rattle.jop_cli.specs.promises.Cycle.{CyclesAreRuns, CyclesAreShown, SlotsAreKept, NoSlotIsLate}
--- `loops`: the loops count; each frame of each run keeps their numbers, ended or not; a bound asks for the other loops alone.
+-- `loops`: the loops count; each frame of each run keeps their numbers, ended or not; a bound asks for the other loops alone. The lines are the
+-- only answer.
 pub use Rattle.jop_cli.specs.promises.Loops.{WrittenLoopsCount, FoundLoopsAreKept, FurtherFoundLoopsAreKept, CountedLoopsAreKept, FurtherLoopsAreKept}
--- `headers`: `bound` takes from the text just what is written, loops are bounded where no remark stands, and a bound asks for the lines alone.
-pub use Rattle.jop_cli.specs.promises.Headers.{HeaderFilesAreTaken, HeaderFilesHaveBounds, NotedLoopsAreKept, HeadersAreShown}
+pub use Rattle.jop_cli.specs.promises.Loops.{LoopLinesAreOne, FurtherLinesAreOne}
+-- `headers`: `bound` takes from the text just what is written, loops are bounded where no remark stands, and a bound asks for the lines alone. It is
+-- the only answer.
+pub use Rattle.jop_cli.specs.promises.Headers.{HeaderFilesAreTaken, HeaderFilesHaveBounds, NotedLoopsAreKept, HeadersAreShown, HeaderFilesAreOne}
 -- `memory`: the words that it tells suffice, in each run of what is linked.
 pub use Rattle.jop_cli.specs.promises.Memory.{NeedsSuffice, NeedsAreShown, NeedsSufficeInRuns, NeedsAreOne, NeedsAreNotRefused, NeedCausesAreTold}
 -- What is asked of an image is answered: `check`, `bound`, `report`, `loops`, `headers`, `memory`.

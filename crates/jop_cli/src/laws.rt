@@ -3,17 +3,18 @@
 //! The laws speak of calls of `jop`: what its contract says of its arguments and of its outcome makes one (`call_of`).
 ghost use Rattle.jop_cli.specs.promises.Link.{LinkingIsComplete, LinkRefusalsAreAnswered, LinkRefusalsAreOne, LinkedImagesAreShown};
 ghost use Rattle.jop_cli.specs.promises.Run.{RunsAreTheBytecodes, TracesAreTheRuns, BareRunsAreTheBytecodes, BareTracesAreTheRuns, RunsAreOne};
-ghost use Rattle.jop_cli.specs.promises.Images.{OneBareImage, OneLinkedImage};
+ghost use Rattle.jop_cli.specs.promises.Images.{OneBareImage, OneLinkedImage, NoImageIsBoth};
 ghost use Rattle.jop_cli.specs.promises.Asm.{AssemblingIsComplete, AsmRefusalsAreAnswered, AsmRefusalsAreOne, ListingsAreShown};
 ghost use Rattle.jop_cli.specs.promises.Bound.{BoundsAreKept, BoundingIsComplete, BoundRefusalsAreCaused, CausesAreAnswered, NamesTellMethods};
 ghost use Rattle.jop_cli.specs.promises.Check.{CheckingIsComplete, FaultsAreAnswered, HeldLinesAreOne};
 ghost use Rattle.jop_cli.specs.promises.Activations.{BoundsHoldInRuns, MethodsAreLoadedOnce, CheckedRunsAreKept};
 ghost use Rattle.jop_cli.specs.promises.Loops.{WrittenLoopsCount, CountedLoopsAreKept, FurtherLoopsAreKept, FoundLoopsAreKept, FurtherFoundLoopsAreKept};
-ghost use Rattle.jop_cli.specs.promises.Headers.{HeaderFilesAreTaken, HeaderFilesHaveBounds, NotedLoopsAreKept, HeadersAreShown};
+ghost use Rattle.jop_cli.specs.promises.Loops.{LoopLinesAreOne, FurtherLinesAreOne};
+ghost use Rattle.jop_cli.specs.promises.Headers.{HeaderFilesAreTaken, HeaderFilesHaveBounds, NotedLoopsAreKept, HeadersAreShown, HeaderFilesAreOne};
 ghost use Rattle.jop_cli.specs.promises.Questions.{QuestionsAreAnswered};
 ghost use Rattle.jop_cli.specs.promises.Memory.{NeedsSuffice, NeedCausesAreTold, NeedsAreNotRefused, NeedsAreOne, NeedsAreShown, NeedsSufficeInRuns};
 ghost use Rattle.jop_cli.specs.promises.Profile.{ProfilesAreComplete, ProfilesAreKept, ProfilesAreShown};
-ghost use Rattle.jop_cli.specs.promises.Plan.{ExecutivesAreThere, PlansAreAnswered, PlansAreKept};
+ghost use Rattle.jop_cli.specs.promises.Plan.{ExecutivesAreThere, PlansAreAnswered, PlansAreKept, PlansAreOne};
 ghost use Rattle.jop_cli.specs.promises.Cycle.{CyclesAreRuns, SlotsAreKept, CyclesAreShown, NoSlotIsLate};
 ghost use Rattle.jop_cli.specs.promises.Report.{ReportsAddUp, ReportsAreKept};
 ghost use Rattle.jop_cli.specs.promises.Work.{WorkingIsComplete, WorkLinesAreTrue};
@@ -24,21 +25,14 @@ ghost use Rattle.jop_cli.specs.promises.Refusals.{DifferingImagesAreRefused, Lon
 
 use activation_laws::{activations_are_seen, called_keep_bounds, profiles_keep_bounds};
 use activations::laws::{places_tell_words, steps_are_told};
-use bound_cert::has_one_certificate;
-use bound_report::laws::parts_add_up;
 use bound_rules::laws::{faults_are_one, graphs_are_one, refused_is_not_met};
 use bound_sound::certificates_are_sound;
 use bound_sound::loads::{activations_load_once, loads_are_misses, stays_load_once};
 use boundary::laws::runs_are_in_a_row;
-use boundary::verified_programs_are_told;
-use class_file::laws::one_class;
 use counted_activations::laws::{
     boot_holds_constants, counted_loops_of_runs, found_loops_count, further_found_loops_count,
     further_loops_of_runs,
 };
-use counted_laws::laws::{boot_holds_known, counted_loops_are_further, further_loops_keep};
-use further_rules::laws::puts_keep_arrays;
-use image_file::one_image;
 use jopizer::laws::{
     linked_files_are_not_refused, linked_images_are_read, main_is_there, one_linked,
     refusals_are_one,
@@ -46,12 +40,6 @@ use jopizer::laws::{
 use loop_bounds::laws::{
     gives_one, lengths_give_one, read_is_not_refused, read_lengths_are_not_refused,
 };
-use memory_bound::laws::need_causes_are_one;
-use memory_laws::laws::{heap_need_suffices, stack_need_suffices};
-use memory_rules::laws::needs_are_one;
-use method_names::laws::written_names_are_one;
-use report_lines::laws::lines_add_up;
-use source_headers::laws::{files_bound_headers, header_files_are_read, roots_have_lines};
 
 /// Class files that nothing refuses are linked, and what refuses them is answered, which is one refusal.
 pub fn linking_is_exact()
@@ -78,9 +66,10 @@ pub fn runs_are_the_bytecodes()
     linked_images_are_read();
 }
 
-/// Bytes are those of one bare image.
+/// Bytes are those of one bare image, and then not those of a linked one.
 pub fn one_bare_image()
-    ensures { OneBareImage }
+    ensures one { OneBareImage }
+    ensures both { NoImageIsBoth }
 {}
 
 /// The run of a bare image is that of its program, and its trace that of the run.
@@ -108,7 +97,7 @@ pub fn checking_is_exact()
     linked_images_are_read();
     gives_one();
     read_is_not_refused();
-    has_one_certificate();
+    bound_cert::has_one_certificate();
     refused_is_not_met();
     faults_are_one();
 }
@@ -128,7 +117,7 @@ pub fn bounding_is_exact()
     read_is_not_refused();
     bound_laws::laws::refusals_are_one();
     bound_laws::laws::own_costs_exist();
-    written_names_are_one();
+    method_names::laws::written_names_are_one();
     bound_laws::laws::resolved_codes_are_short();
 }
 
@@ -178,8 +167,8 @@ pub fn profiles_are_complete()
 pub fn reports_add_up()
     ensures { ReportsAddUp }
 {
-    parts_add_up();
-    lines_add_up();
+    bound_report::laws::parts_add_up();
+    report_lines::laws::lines_add_up();
 }
 
 /// What is linked with the executive of a table has it; a plan of it is answered, and a cycle is a run of it.
@@ -194,6 +183,17 @@ pub fn executives_are_answered()
     slot_table::laws::read_is_not_refused();
 }
 
+/// The lines of a plan are the only answer.
+pub fn plans_are_one()
+    ensures { PlansAreOne }
+{
+    gives_one();
+    bound_rules::laws::numbers_are_one();
+    bound_laws::laws::calls_end_without_recursion();
+    bound_rules::laws::methods_have_code();
+    method_graphs::laws::typed_methods_reach_starts();
+}
+
 /// Where there is a plan, the slots of a cycle keep their lengths, and its line says that none was late.
 pub fn slots_are_kept()
     ensures kept { SlotsAreKept }
@@ -206,20 +206,22 @@ pub fn slots_are_kept()
 }
 
 /// Where the answer is that the lines of loops are written, the loops count to their numbers; in the runs of what is linked, ended or not,
-/// each frame keeps these, and a bound of a method asks for the other loops alone.
+/// each frame keeps these, and a bound of a method asks for the other loops alone. The lines are the only ones.
 pub fn loops_count()
     ensures written { WrittenLoopsCount }
     ensures found { FoundLoopsAreKept }
     ensures further_found { FurtherFoundLoopsAreKept }
     ensures kept { CountedLoopsAreKept }
     ensures further_kept { FurtherLoopsAreKept }
+    ensures one { LoopLinesAreOne }
+    ensures further_one { FurtherLinesAreOne }
 {
     graphs_are_one();
-    further_loops_keep();
-    counted_loops_are_further();
+    counted_laws::laws::further_loops_keep();
+    counted_laws::laws::counted_loops_are_further();
     boot_holds_constants();
-    boot_holds_known();
-    puts_keep_arrays();
+    counted_laws::laws::boot_holds_known();
+    further_rules::laws::puts_keep_arrays();
     found_loops_count();
     further_found_loops_count();
     places_tell_words();
@@ -235,10 +237,15 @@ pub fn headers_bound_loops()
     ensures bounds { HeaderFilesHaveBounds }
     ensures kept { NotedLoopsAreKept }
     ensures shown { HeadersAreShown }
+    ensures one { HeaderFilesAreOne }
 {
-    header_files_are_read();
-    files_bound_headers();
-    roots_have_lines();
+    graphs_are_one();
+    compact_walks::laws::graphs_are_moved();
+    compact_walks::laws::ends_are_one();
+    source_bounds::laws::gives_one();
+    source_headers::laws::header_files_are_read();
+    source_headers::laws::files_bound_headers();
+    source_headers::laws::roots_have_lines();
     found_loops_count();
     loops_count();
 }
@@ -261,11 +268,11 @@ pub fn needs_suffice()
     ensures not_refused { NeedsAreNotRefused }
     ensures causes { NeedCausesAreTold }
 {
-    verified_programs_are_told();
-    stack_need_suffices();
-    heap_need_suffices();
-    needs_are_one();
-    need_causes_are_one();
+    boundary::verified_programs_are_told();
+    memory_laws::laws::stack_need_suffices();
+    memory_laws::laws::heap_need_suffices();
+    memory_rules::laws::needs_are_one();
+    memory_bound::laws::need_causes_are_one();
     gives_one();
     read_is_not_refused();
     lengths_give_one();
@@ -290,8 +297,8 @@ pub fn refusals_are_answered()
     ensures bare { LongBareCodesAreRefused }
     ensures memory { SmallMemoriesAreRefused }
 {
-    one_class();
-    one_image();
+    class_file::laws::one_class();
+    image_file::one_image();
     one_linked();
     linked_images_are_read();
     linked_files_are_not_refused();

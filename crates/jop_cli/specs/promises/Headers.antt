@@ -57,3 +57,7 @@ pub record ShowsHeaders (c : Call) (image operands : ℕ) : Type 0 where
 
 abbrev pub HeadersAreShown : Type 0
 HeadersAreShown = (c : Call) (image operands : ℕ) → command_of c.words ≡ Ok (Headers image operands) → c.outcome ≡ Written → ShowsHeaders c image operands
+
+-- The text is the only answer: two texts of headers of the same classes, with the same lines, are one.
+abbrev pub HeaderFilesAreOne : Type 0
+HeaderFilesAreOne = (cs : List ClassFile) (lines text other : List ℕ) → IsHeaderFile cs lines text → IsHeaderFile cs lines other → text ≡ other

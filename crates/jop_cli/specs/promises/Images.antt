@@ -9,6 +9,10 @@ use Rattle.jop_cli.specs.promises.Words.{BareContent, IsBareFile, Grew, Call, Pa
 abbrev pub OneBareImage : Type 0
 OneBareImage = (bytes : List ℕ) (a b : BareContent) → IsBareFile bytes a → IsBareFile bytes b → a ≡ b
 
+-- None are those of a linked image and of a bare one.
+abbrev pub NoImageIsBoth : Type 0
+NoImageIsBoth = (bytes : List ℕ) (l : Parts) (image : BareContent) → file.IsLinkedFile bytes (image_of l) → ¬ IsBareFile bytes image
+
 -- ---- `loops`
 
 -- no line was put of a bare image, which has no classes

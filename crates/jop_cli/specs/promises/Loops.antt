@@ -17,7 +17,7 @@ use Rattle.loop_nest.specs.Digraph.{Digraph}
 use Rattle.loop_nest.specs.Walks.{KeepsBound}
 use Rattle.method_flow.specs.Nodes.{At, number_of}
 use Rattle.method_flow.specs.Graphs.{IsGraphOf}
-use Rattle.jop_cli.specs.promises.Words.{Parts, IsLinked, image_of, resolved, IsResolved, Grew, Call, text_of_word, AreFiles, command_of, Written}
+use Rattle.jop_cli.specs.promises.Words.{Parts, IsLinked, image_of, resolved, IsResolved, Grew, Call, text_of_word, AreFiles, command_of, Written, ClassFile}
 use Rattle.jop_cli.specs.promises.Images.{HasNoLoop}
 use Rattle.jop_cli.specs.promises.Runs.{RunAt, walks_at}
 use Rattle.jop_cli.specs.promises.Activations.{BoundInRun, TakesAtMost}
@@ -92,3 +92,10 @@ abbrev pub FurtherFoundLoopsAreKept : Type 0
 FurtherFoundLoopsAreKept =
     (c : Call) (bytes : List ℕ) (loops : FurtherLoopsCount c bytes) (r : RunAt loops.linked) (x : FoundLoop) → Contains loops.lines.found x
     → FramesKeepLoop (resolved loops.linked.classes) x r.stage.state.frames (walks_at loops.linked r boot_walks)
+
+-- The lines are the only answer: two texts of loops of the same classes are one.
+abbrev pub LoopLinesAreOne : Type 0
+LoopLinesAreOne = (cs : List ClassFile) (text other : List ℕ) → AreLoopLines cs text → AreLoopLines cs other → text ≡ other
+
+abbrev pub FurtherLinesAreOne : Type 0
+FurtherLinesAreOne = (cs : List ClassFile) (text other : List ℕ) → AreFurtherLines cs text → AreFurtherLines cs other → text ≡ other

@@ -8,7 +8,7 @@ use Rattle.commands.specs.declared.outcome.Answer.TheVariants.{Text, Ends}
 use Rattle.commands.specs.Executive.{executive_class, with_executive, IsReadied}
 use Rattle.jop_cli.specs.promises.Words.{LinkRefusal, Slot, RefusesFiles, Call, OperandsAreTold, Parts, resolved, named_or_number, IsLinkedWith, Settings}
 use Rattle.jop_cli.specs.promises.Words.{Ending, Written, line_of, Grew, IsQuiet, LacksMemory, PutsOut, outcome_of, command_of, NothingFailed, AreFiles}
-use Rattle.jop_cli.specs.promises.Words.{BoundsActivations, timing_of, bounds_of, text_of_word}
+use Rattle.jop_cli.specs.promises.Words.{BoundsActivations, timing_of, bounds_of, text_of_word, ClassFile, IsSetting, linked_setting}
 use Rattle.jop_cli.specs.Planning.{AnswersPlan, planned_files}
 
 -- ---- `plan` and `cycle`
@@ -62,3 +62,9 @@ abbrev pub PlansAreKept : Type 0
 PlansAreKept =
     (c : Call) (settings : Settings) (rounds table bounds first : ℕ) → command_of c.words ≡ Ok (ToPlan settings rounds table bounds first) → c.outcome ≡ Written
     → ShowsPlan c settings rounds table
+
+-- The lines are the only answer: two plans of the same slots, with the same bounds of loops and the same settings, are one, where a machine runs the program.
+abbrev pub PlansAreOne : Type 0
+PlansAreOne =
+    (cs : List ClassFile) → IsSetting (linked_setting cs 0 0) → (settings : Settings) (bounds_text : List ℕ) (slots : List Slot) (text other : List ℕ)
+    → IsPlan cs settings bounds_text slots text → IsPlan cs settings bounds_text slots other → text ≡ other

@@ -1,4 +1,5 @@
 use Rattle.jop_cli.proofs.NotedLaw as law
+use Rattle.jop_cli.proofs.OneHeaders.{header_files_are_one}
 use Rattle.jop_cli.proofs.ShownTexts.{headers_are_shown}
 use Rattle.jop_cli.proofs.laws.headers_bound_loops.Goals as goal
 
@@ -13,3 +14,6 @@ returns-clause-kept c = law.noted_loops_are_kept c.found_loops_count.ensures c.f
 
 pub returns-clause-shown : goal.returns-clause-shown
 returns-clause-shown c = headers_are_shown
+
+pub returns-clause-one : goal.returns-clause-one
+returns-clause-one c = header_files_are_one c.graphs_are_moved.ensures.graphs c.ends_are_one.ensures c.graphs_are_one.ensures.whole c.gives_one.ensures

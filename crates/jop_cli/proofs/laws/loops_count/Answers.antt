@@ -1,5 +1,6 @@
 use Rattle.jop_cli.proofs.LoopsLaw.{written_loops_count}
 use Rattle.jop_cli.proofs.CountedLaw.{counted_loops_are_kept, further_loops_are_kept}
+use Rattle.jop_cli.proofs.OneLoops.{loop_lines_are_one, further_lines_are_one}
 use Rattle.jop_cli.proofs.FoundLoops as frames
 use Rattle.jop_cli.proofs.laws.loops_count.Goals as goal
 
@@ -19,3 +20,9 @@ returns-clause-kept c = counted_loops_are_kept c.places_tell_words.ensures c.ste
 
 pub returns-clause-further_kept : goal.returns-clause-further_kept
 returns-clause-further_kept c = further_loops_are_kept c.places_tell_words.ensures c.steps_are_told.ensures c.further_loops_of_runs.ensures
+
+pub returns-clause-one : goal.returns-clause-one
+returns-clause-one c = loop_lines_are_one
+
+pub returns-clause-further_one : goal.returns-clause-further_one
+returns-clause-further_one c = further_lines_are_one

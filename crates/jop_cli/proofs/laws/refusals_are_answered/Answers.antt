@@ -26,7 +26,7 @@ returns-clause-methods c =
     machines.long_methods_are_refused c.one_linked.ensures c.linked_images_are_read.ensures c.one_class.ensures c.executives_are_answered.ensures.plans c.executives_are_answered.ensures.cycles
 
 pub returns-clause-bare : goal.returns-clause-bare
-returns-clause-bare c = codes.long_bare_codes_are_refused c.one_bare_image.ensures
+returns-clause-bare c = codes.long_bare_codes_are_refused c.one_bare_image.ensures.one
 
 pub returns-clause-memory : goal.returns-clause-memory
 returns-clause-memory c = machines.small_memories_are_refused c.one_linked.ensures c.linked_images_are_read.ensures c.one_class.ensures c.executives_are_answered.ensures.cycles
