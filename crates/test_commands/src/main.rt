@@ -13,17 +13,22 @@
 //! does: the status, and whether out and err hold all that the call puts there where none fails, or a front of it. Answers that follow one
 //! another and are the same stand there once.
 //!
+//! Of a line `checked FILES`, where the files are an image, a text of bounds and a certificate, come the statuses of `check` of them and of `run`
+//! of the image.
+//!
 //! Two lines come of each other one: the words with the status and what was put out, and what stands on err. Behind those of a trace come its
 //! lines, of a long one the first and the last. Of a line `watch HEX` come the states that a watch holds after a run of this image, of
 //! many the first and the last, and once more those of one that was made with room for 4,096.
 #![tactic(auto)]
 
 mod call;
+mod checked;
 mod each;
 mod row;
 mod watch;
 
 use call::show;
+use checked::show_checked;
 use each::show_each;
 use std::alloc::Global;
 use std::io;
@@ -38,6 +43,10 @@ fn do_line(rt: &HostRuntime, line: &str, last: Vec<u8>) -> Result<Vec<u8>, RowFa
     }
     if let Some(row) = line.strip_prefix("each ") {
         show_each(rt, row, &last)?;
+        return Ok(last);
+    }
+    if let Some(row) = line.strip_prefix("checked ") {
+        show_checked(rt, row, &last)?;
         return Ok(last);
     }
     let out = show(rt, line, &last)?;
