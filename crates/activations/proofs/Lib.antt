@@ -1,7 +1,7 @@
 mod Following
-mod Staying
-mod Nodes
+pub mod Staying
+pub mod Nodes
 mod Walking
-mod Keeping
+pub mod Keeping
 mod Trees
 mod Wording

@@ -66,6 +66,7 @@ fn target_at(flow: &FlowProgram, caller: u32, place: u32) -> Option<u32>
     // For the proof: the table and the method are of their forms.
     let _ = flow.method_count();
     let method = flow.method(caller);
+    // Its clause is for the proof alone.
     let _ = method.calls();
     let call = call_at(method, place)?;
     only_target(flow, call)

@@ -147,6 +147,7 @@ pub fn callees_of(
     ensures { IfOk result (λ v. AreCalleesOf task.now m table.now without_loads.now v.items) }
 {
     starts_follow_one_another();
+    // Its clause is for the proof alone.
     let _ = task.flow().method_count();
     let method = task.method(m);
     let back = load(method, task.timing().read);

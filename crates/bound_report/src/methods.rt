@@ -25,6 +25,7 @@ fn form_of(task: &Task<'_>, m: u32)
     ensures setting { IsBoundSetting task.now }
     ensures coded { (k : Coded) × (slice_get task.now.flow.methods m ≡ Some k) × IsCoded k }
 {
+    // Its clause is for the proof alone.
     let _timing = task.timing();
     let _code = task.method(m).code();
 }

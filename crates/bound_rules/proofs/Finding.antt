@@ -5,14 +5,11 @@ use Rattle.lists.specs.Tests.{and_left, and_right, not_true}
 use Rattle.bytecode_model.specs.Program.{Program}
 use Rattle.method_flow.specs.Keeping.{BoundOf}
 use Rattle.method_flow.specs.declared.timing.Timing.{Timing}
-use Rattle.method_flow.specs.Regions.{load}
-use Rattle.bound_rules.specs.Fitting.{loads_of}
-use Rattle.bound_rules.specs.Told.{Valued, section_value, is_same, value_in, with_cycles, SaysFull, SaysCalled, most_cycles, within_limit}
-use Rattle.bound_rules.specs.Told.SaysFull.{fits, exceeds}
+use Rattle.bound_rules.specs.Told.{Valued, section_value, is_same, value_in, with_cycles, most_cycles, within_limit}
 use Rattle.bound_rules.specs.Sections.{MeetsSection}
-use Rattle.bound_rules.specs.Met.{AreMet, IsFound}
-use Rattle.bound_rules.specs.Met.AreMet.{nothing, one_more}
-use Rattle.bound_rules.specs.Laws.{AllAreMet, OneMoreMeets, SectionsAreFound}
+use Rattle.bound_rules.specs.Met.{AreMet}
+use Rattle.bound_rules.specs.Met.AreMet.{one_more}
+use Rattle.bound_rules.specs.Laws.{AllAreMet, OneMoreMeets}
 
 pub all_are_met : AllAreMet
 all_are_met P t bound_of earlier [] values met all = subst (λ (vs : List Valued). AreMet P t bound_of vs) (sym all) met
@@ -31,7 +28,7 @@ same_is true b e = e
 same_is false b e = not_true b e
 
 -- the value among entries with one more behind them is that among the entries, or that of the one
-found_behind : (inside : Bool) (m : ℕ) (vs : List Valued) (w : Valued) (x : Option ℕ) → value_in inside m (vs ++ w ∷ []) ≡ Some x
+pub found_behind : (inside : Bool) (m : ℕ) (vs : List Valued) (w : Valued) (x : Option ℕ) → value_in inside m (vs ++ w ∷ []) ≡ Some x
     → (value_in inside m vs ≡ Some x) ⊎ ((w.method ≡ m) × (w.inside ≡ inside) × (w.value ≡ x))
 found_behind inside m [] w x e = by (is_same inside w.inside && w.method == m) refl e
   where
@@ -47,26 +44,14 @@ found_behind inside m (v ∷ vs) w x e = by (is_same inside v.inside && v.method
     by true e' further = inl e'
     by false e' further = further e'
 
-pub find : {P : Program} {t : Timing} {bound_of : BoundOf} {earlier : List Valued} → AreMet P t bound_of earlier → (inside : Bool) (m : ℕ) (x : Option ℕ) → value_in inside m earlier ≡ Some x
-    → IsFound P t bound_of inside m x
-find nothing inside m x e = absurd (cc)
-find {P} {t} {bound_of} (one_more {earlier = vs} met s value meets) inside m x e =
-    elim (found_behind inside m vs (section_value s value) x e) [
-      | inl among ↦ find met inside m x among
-      | inr last ↦ record { earlier = vs; met = met; section = s; meets = subst (λ (y : Option ℕ). MeetsSection P t bound_of vs s y) last.2 meets; method = last.0; kind = last.1 }
-    ]
+-- ---- what is told to have no value
 
-pub sections_are_found : SectionsAreFound
-sections_are_found P t bound_of earlier met inside m value e = find met inside m value e
-
--- ---- a target that is told to have no value
-
-none_raised : (more : ℕ) (o : Option (Option ℕ)) → with_cycles more o ≡ Some None → o ≡ Some None
+pub none_raised : (more : ℕ) (o : Option (Option ℕ)) → with_cycles more o ≡ Some None → o ≡ Some None
 none_raised more None e = absurd (cc)
 none_raised more (Some None) e = refl
 none_raised more (Some (Some n)) e = absurd (cc)
 
-none_within : (own : ℕ) (o : Option (Option ℕ)) → within_limit own o ≡ Some None → o ≡ Some None
+pub none_within : (own : ℕ) (o : Option (Option ℕ)) → within_limit own o ≡ Some None → o ≡ Some None
 none_within own None e = absurd (cc)
 none_within own (Some None) e = refl
 none_within own (Some (Some n)) e = by (nat_le (own + n) most_cycles) e
@@ -74,17 +59,3 @@ none_within own (Some (Some n)) e = by (nat_le (own + n) most_cycles) e
     by : (b : Bool) → ◌≡◌ {A = Option (Option ℕ)} (if b then Some (Some n) else None) (Some None) → ◌≡◌ {A = Option (Option ℕ)} (Some (Some n)) (Some None)
     by true e' = absurd (cc)
     by false e' = absurd (cc)
-
--- a section of the method has no value
-abbrev pub IsFoundWithout : Program → Timing → BoundOf → ℕ → Type 0
-IsFoundWithout P t bound_of m = (inside : Bool) × IsFound P t bound_of inside m None
-
-module _ (P : Program) (t : Timing) (bound_of : BoundOf) (earlier : List Valued) (met : AreMet P t bound_of earlier) where
-  full_none : (m : ℕ) (said : Option (Option ℕ)) → SaysFull P t earlier m said → said ≡ Some None → IsFoundWithout P t bound_of m
-  full_none m said (fits together is) none = (true, find met true m None (none_raised (loads_of together) (value_in true m earlier) (sym is ∙ none)))
-  full_none m said (exceeds alone is) none = (false, find met false m None (none_raised (load P t.read m) (value_in false m earlier) (sym is ∙ none)))
-
-  -- what is told so is that of a section without a value
-  pub told_none : (without_loads : Bool) (m x own : ℕ) (said : Option (Option ℕ)) → SaysCalled P t earlier without_loads m x said → within_limit own said ≡ Some None → IsFoundWithout P t bound_of x
-  told_none true m x own said says none = (true, find met true x None (sym says ∙ none_within own said none))
-  told_none false m x own said (full, says, is) none = full_none x full says (none_raised (load P t.read m) full (sym is ∙ none_within own said none))

@@ -1,7 +1,8 @@
-mod Finding
+pub mod Finding
+pub mod Examined
 mod Ending
 mod Headers
-mod Walking
+pub mod Walking
 mod Coding
 pub mod Sums
 pub mod Owning

@@ -29,7 +29,7 @@ use Rattle.bound_rules.specs.Told.{Valued, section_value, value_in, TargetValues
 use Rattle.bound_rules.specs.Sections.{IsSectionEdge, IsSectionNode, MeetsSection, section_bounds}
 use Rattle.bound_rules.specs.Conditions.{MeetAll, MeetsConditions}
 use Rattle.bound_rules.specs.Refused.{IsCertRefused}
-use Rattle.bound_rules.specs.Met.{AreMet, IsFound}
+use Rattle.bound_rules.specs.Met.{AreMet}
 
 -- ---- sections
 
@@ -45,12 +45,6 @@ OneMoreMeets =
     (P : Program) (t : Timing) (bound_of : BoundOf) (earlier : List Valued) (ss : List CertSection) (values : List Valued) (s : CertSection) (value : Option ℕ)
     → MeetAll P t bound_of earlier ss values
     → MeetsSection P t bound_of values s value → MeetAll P t bound_of earlier (ss ++ s ∷ []) (values ++ section_value s value ∷ [])
-
--- a value among theirs is that of one of them
-abbrev pub SectionsAreFound : Type 0
-SectionsAreFound = (P : Program) (t : Timing) (bound_of : BoundOf) (earlier : List Valued) → AreMet P t bound_of earlier
-    → (inside : Bool) (m : ℕ) (value : Option ℕ) → value_in inside m earlier ≡ Some value
-    → IsFound P t bound_of inside m value
 
 -- the header of a loop of such a section is an instruction, and the loop has the bound that is given for it
 abbrev pub HeadersHaveBounds : Type 0

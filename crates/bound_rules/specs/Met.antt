@@ -1,7 +1,6 @@
 -- Sections that meet their conditions one behind another.
-use Rattle.std.specs.Prelude.{◌≡◌, ℕ, Bool, List, [], ◌∷◌, ◌++◌, Option}
+use Rattle.std.specs.Prelude.{ℕ, List, [], ◌∷◌, ◌++◌, Option}
 use Rattle.bound_cert.specs.declared.cert.CertSection.{CertSection}
-use Rattle.bound_cert.specs.Certificate.{is_inside}
 use Rattle.bytecode_model.specs.Program.{Program}
 use Rattle.method_flow.specs.Keeping.{BoundOf}
 use Rattle.method_flow.specs.declared.timing.Timing.{Timing}
@@ -13,12 +12,3 @@ pub data AreMet (P : Program) (t : Timing) (bound_of : BoundOf) : List Valued �
   nothing : AreMet P t bound_of []
   one_more : {earlier : List Valued} → AreMet P t bound_of earlier → (s : CertSection) (value : Option ℕ) → MeetsSection P t bound_of earlier s value
       → AreMet P t bound_of (earlier ++ section_value s value ∷ [])
-
--- such a section of the method, inside or of another kind, that has this value
-pub record IsFound (P : Program) (t : Timing) (bound_of : BoundOf) (inside : Bool) (m : ℕ) (value : Option ℕ) : Type 0 where
-  pub earlier : List Valued
-  pub met : AreMet P t bound_of earlier
-  pub section : CertSection
-  pub meets : MeetsSection P t bound_of earlier section value
-  pub method : section.method ≡ m
-  pub kind : is_inside section.kind ≡ inside

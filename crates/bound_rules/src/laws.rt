@@ -4,7 +4,7 @@ ghost use Rattle.bound_rules.specs.Examples.{WorkedExamples};
 ghost use Rattle.bound_rules.specs.Laws.{AllAreMet, CalledFit, ChargedLoopsAreOne, ChargesAreOne, CostsAreTold, FaultsAreOne, GraphsAreOne};
 ghost use Rattle.bound_rules.specs.Laws.{HeadersAreInstructions, HeadersHaveBounds, IterationsAreTold, LiveEdgesStay, LiveGraphsAreOne, MethodsHaveCode};
 ghost use Rattle.bound_rules.specs.Laws.{NoValueNoEnd, NumbersAreOne, OneMoreMeets, PrintedIsOne, PrintedIsTold, RefusedIsNotMet, SectionGraphsAreOne};
-ghost use Rattle.bound_rules.specs.Laws.{SectionsAreFound, SectionsBoundWalks, ValuesAreTold};
+ghost use Rattle.bound_rules.specs.Laws.{SectionsBoundWalks, ValuesAreTold};
 
 /// The sections of a certificate that meets its conditions meet them one behind another.
 pub fn all_are_met()
@@ -14,11 +14,6 @@ pub fn all_are_met()
 /// With one more section behind them that meets its conditions, they all meet theirs.
 pub fn one_more_meets()
     ensures { OneMoreMeets }
-{}
-
-/// A value among those of such sections is that of one of them.
-pub fn sections_are_found()
-    ensures { SectionsAreFound }
 {}
 
 /// A method whose section has no value can't end.

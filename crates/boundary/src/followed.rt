@@ -61,6 +61,7 @@ fn follow_to_end<const N: usize, D: Devices, F: Follower>(
     // The laws are for the proof.
     runs_add_up();
     cycles_keep();
+    // Its clause is for the proof alone.
     let _mode = running.mode();
     let mut top = top_frame(running);
     follower.at(here(running, top));

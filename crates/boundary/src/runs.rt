@@ -58,6 +58,7 @@ fn go_to_end<const N: usize, D: Devices>(
     // The laws are for the proof.
     runs_add_up();
     cycles_keep();
+    // Its clause is for the proof alone.
     let _mode = running.mode();
     while running.machine().clock() < limit {
         match running.bytecode(device)? {

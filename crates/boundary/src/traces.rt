@@ -63,6 +63,7 @@ fn trace_to_end<'i, 'o, const N: usize, S: Source, O: Sink>(
     // The laws are for the proof.
     runs_add_up();
     cycles_keep();
+    // Its clause is for the proof alone.
     let _mode = running.mode();
     while running.machine().clock() < limit {
         match trace_step(running, names, device)? {

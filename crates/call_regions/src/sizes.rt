@@ -20,6 +20,7 @@ pub(crate) fn blocks(k: &FlowMethod, block_words: u32) -> u32
     ensures blocks { result ≡ blocks_for block_words (words_for (length k.now.code)) }
     ensures form { IsCoded k.now }
 {
+    // Its clause is for the proof alone.
     let _ = k.code();
     words(k).div_ceil(block_words)
 }

@@ -86,6 +86,7 @@ fn told_summaries(
         AreSummaries (told_by task.now values.now.valued s.now own.now) task.now.flow k.calls summaries.items)) }
 {
     starts_follow_one_another();
+    // Its clause is for the proof alone.
     let _ = task.flow().method_count();
     let regions = regions(alloc, s, own.len())?;
     let teller = Teller {
@@ -112,8 +113,10 @@ pub fn prepare(
 {
     opcodes::laws::starts_follow_one_another();
     method_flow::laws::rows_are_of_their_kinds();
+    // Its clause is for the proof alone.
     let _ = task.flow().method_count();
     let m = task.method(s.method);
+    // Its clause is for the proof alone.
     let _ = m.calls();
     let own = own_costs(alloc, m, task.timing())?;
     let summaries = told_summaries(alloc, task, values, s, &own)?;

@@ -65,6 +65,7 @@ fn keep_marks(
     requires selected { selected.now ≡ map (λ c. select classes.now c method) lower.now }
     ensures { AreKept (λ c. not (is_among lower.now c) || is_implemented classes.now c method) marks.old.items marks.new.items }
 {
+    // The contract alone speaks of it.
     let _ = method;
     for (i, class) in lower.iter().enumerate() {
         if !has_code(classes, selected[i]) {

@@ -64,6 +64,7 @@ fn method_items(alloc: Global, pool: &Pool) -> Result<Vec<Option<Item>>, NoMemor
 fn item_at(items: &[Option<Item>], pool: &Pool, index: u16) -> Option<Item>
     ensures { (say : List ℕ → Option Item) → say [] ≡ None → items.now ≡ map (of_entry say) pool.now → result ≡ say (text_at pool.now index) }
 {
+    // The contract alone speaks of it.
     let _ = pool;
     if index == 0 {
         return None;

@@ -32,6 +32,7 @@ fn are_handlers(handlers: &[(u16, u16, u16, u16)]) -> bool
 fn is_named(attribute: &(u16, Items<u8>)) -> bool
     ensures { IsTrue result ↔ IsNamedInRange attribute.now }
 {
+    // The contract alone speaks of it.
     let _name = attribute.0;
     attribute.1.as_slice().len() <= MOST_OF_32
 }
@@ -75,6 +76,7 @@ fn has_kind(kind: Kind, body: &Body) -> bool
     match (kind, body) {
         (Kind::Code, Body::Code(code)) => is_code(code),
         (Kind::ConstantValue, Body::ConstantValue(constant)) => {
+            // The contract alone speaks of it.
             let _constant = *constant;
             true
         }

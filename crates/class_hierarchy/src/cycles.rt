@@ -36,6 +36,7 @@ fn is_on_cycle(
     requires direct { (c : ℕ) → entry above.now c ≡ direct_supertypes classes.now c }
     ensures { IfOk result (λ is. is ≡ is_on_a_cycle classes.now class) }
 {
+    // The contract alone speaks of it.
     let _ = classes;
     let mut found = NumberSet::new(alloc);
     add_each(&mut found, above[class as usize].as_slice())?;

@@ -83,6 +83,7 @@ impl Hierarchy {
     pub fn is_without_cycle(&self)
         ensures { IsAcyclic self.now }
     {
+        // The contract alone speaks of it.
         let _ = &self.classes;
     }
 

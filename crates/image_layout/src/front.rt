@@ -95,6 +95,7 @@ fn add_lists(words: &mut Vec<u32>, program: &Program, outline: &Outline) -> Resu
     requires { IsOutline program.now outline.now }
     ensures { OnOk result (words.new.items ≡ words.old.items ++ lists_region program.now (outline_of program.now)) }
 {
+    // The contract alone speaks of it.
     let _ = program;
     add_type_places(words, outline, 8)?;
     add_object_places(words, outline, 9)?;

@@ -89,6 +89,7 @@ fn method_size(program: &Program, method: u32) -> Result<u32, NoMemory>
     methods_stand_by_number();
     members_are_there();
     let place = program.method(method);
+    // The contract alone speaks of it.
     let _ = place;
     match program.code(method) {
         Some(code) => {

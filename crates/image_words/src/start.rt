@@ -68,6 +68,7 @@ fn add_string(
     let array = outline.object_place(9 + 2 * string);
     let type_of_string = outline.type_place(STRING)?;
     words.extend_from_slice(&[type_of_string, array])?;
+    // The contract alone speaks of it.
     let _ = many;
     Ok(())
 }

@@ -67,6 +67,7 @@ fn bound_of_loop(
     ensures { IfOk result (λ bound. (d : Digraph) → IsMoved body.now.graph d (slice_index nodes.now) → IsNest d nest.now
         → IsBoundOfLoop body.now (slice_index nodes.now) nest.now index bound) }
 {
+    // Its clause is for the proof alone.
     let _ = body.routes.nodes();
     let l = &nest.loops()[index];
     // A loop that writes nothing has no step, and its tests need no search.
@@ -89,6 +90,7 @@ fn bound_of_marked_loop(
     ensures { IfOk result (λ bound. (d : Digraph) → IsMoved body.now.graph d (slice_index nodes.now) → IsNest d nest.now
         → IsBoundOfLoop body.now (slice_index nodes.now) nest.now index bound) }
 {
+    // Its clause is for the proof alone.
     let _ = body.routes.nodes();
     let marks = marks_of(alloc, nest, nodes, index)?;
     if marks.header() % 2 == 1 {
@@ -146,6 +148,7 @@ fn add_of_index(
         → AddsBeginnings P known m body.now.graph (slice_index nodes.now (header_at nest.now index))
         (λ k. (u : ℕ) × IsSteppedAt body.now (slice_index nodes.now (header_at nest.now index)) k u) found.old.items found.new.items) }
 {
+    // Its clause is for the proof alone.
     let _ = body.routes.nodes();
     let l = &nest.loops()[index];
     if are_idle(&body.acts, nodes, l.members()) {
@@ -276,6 +279,7 @@ fn bounds_by(
     code_lines::laws::one_stands_before();
     opcodes::laws::starts_follow_one_another();
     method_flow::laws::rows_are_of_their_kinds();
+    // Its clause is for the proof alone.
     let _ = method.code();
     let body = plain_body(alloc, method, ints, graph)?;
     match ints {

@@ -35,6 +35,7 @@ pub fn reached(
     requires each { length spans.now ≡ g.now.nodes }
     ensures { IfOk result (λ flags. AreReached g.now (set allowed.now.items without false) start flags.items) }
 {
+    // Its clause is for the proof alone.
     let _ = g.nodes();
     let mut flags = allowed.cleared(alloc)?;
     let mut stack = vec![in alloc; start]?;

@@ -27,6 +27,7 @@ pub fn running_pc<const N: usize>(machine: &Machine<N>, methods: &[CodedMethod<'
 {
     // The law is for the proof.
     frames_have_room();
+    // The contract alone speaks of it.
     let _methods = methods;
     machine.jpc() as u32 - 1
 }

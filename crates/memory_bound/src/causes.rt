@@ -213,6 +213,7 @@ fn need_in(alloc: Global, task: &Task<'_>, order: &[u32]) -> Result<Need, NeedFa
 {
     // The law is for the proof, and the table is of its form.
     order_excludes_cycles();
+    // Its clause is for the proof alone.
     let _ = task.flow().method_count();
     let methods = rising(alloc, order)?;
     let table = examined(alloc, task, order, &methods)?;

@@ -46,6 +46,7 @@ fn starts_are_reached(task: &Task<'_>, m: u32)
     // The laws are for the proof.
     starts_follow_one_another();
     rows_are_of_their_kinds();
+    // Its clause is for the proof alone.
     let _code = task.method(m).code();
 }
 

@@ -47,6 +47,7 @@ fn stack_of(task: &Task<'_>, m: u32, stacks: &[u64], most: u64) -> u64
 {
     // The law is for the proof, and the table is of its form.
     runs_are_calls();
+    // Its clause is for the proof alone.
     let _ = task.flow().method_count();
     let calls = task.method(m).calls();
     u64::from(task.words(m)) + greatest_called(task.flow(), calls, stacks)

@@ -123,6 +123,7 @@ impl<'a> Task<'a> {
     {
         // The law is for the proof, and the table is of its form.
         runs_are_calls();
+        // Its clause is for the proof alone.
         let _ = self.flow.method_count();
         match call_at(self.flow.method(m).calls(), place) {
             Some(call) => self.flow.targets(call),

@@ -40,6 +40,7 @@ pub fn loads(f: &FlowProgram, methods: &[u32], read: u32) -> u64
     ensures of_table { result ≡ sum_by (method_load read f.now.methods) methods.now }
     ensures of_program { (P : Program) → IsFlowOf P f.now → result ≡ loads P read methods.now }
 {
+    // Its clause is for the proof alone.
     let _ = f.method_count();
     let mut cycles = 0;
     for m in methods {
@@ -54,6 +55,7 @@ pub fn greatest_load(f: &FlowProgram, read: u32) -> u64
     ensures greatest { (P : Program) → IsFlowOf P f.now → IsGreatestLoad P read result }
     ensures small { result < 2 ^ 21 }
 {
+    // Its clause is for the proof alone.
     let _ = f.boot();
     let mut greatest = load_at(f, 0, read);
     for m in 1..f.method_count() {

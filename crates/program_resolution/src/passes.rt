@@ -33,6 +33,7 @@ fn class_of_file(classes: &Classes, files: u32, file: u32) -> &ClassFile
     ensures file { slice_get (files_in classes.now files) file ≡ Some result.now }
     ensures class { slice_get classes.now (number_of file) ≡ Some result.now }
 {
+    // The contract alone speaks of it.
     let _ = files;
     let _ = classes.class_count();
     classes.class(CORE_CLASSES + file)
@@ -61,6 +62,7 @@ fn refused_name(classes: &Classes, file: u32, class: &ClassFile) -> Option<Progr
     requires { number_of file < length classes.now }
     ensures { result ≡ first_of (causes classes.now Names file class.now) }
 {
+    // The contract alone speaks of it.
     let _ = class;
     let _ = classes.class_count();
     match duplicate_of(classes, CORE_CLASSES + file) {
@@ -94,6 +96,7 @@ fn refused_item(
     requires { IsClass class.now }
     ensures { IfOk result (λ found. found ≡ first_of (causes classes.now Support file class.now)) }
 {
+    // The contract alone speaks of it.
     let _ = classes;
     match first_unsupported(alloc, class)? {
         Some((site, item)) => Ok(Some(ProgramRefusal::Unsupported(file, site, item))),
@@ -127,6 +130,7 @@ fn refused_supertype(texts: &TextTypes<'_>, file: u32, class: &ClassFile) -> Opt
     requires own { slice_get texts.now (number_of file) ≡ Some class.now }
     ensures { result ≡ first_of (causes texts.now Supertypes file class.now) }
 {
+    // Its clause is for the proof alone.
     let _ = texts.classes().class_count();
     match first_unresolved_supertype(texts, CORE_CLASSES + file, class) {
         Some((entry, why)) => Some(ProgramRefusal::Unresolved(file, entry, why)),
@@ -173,6 +177,7 @@ fn refused_place(
     requires cycle { on_cycle ≡ is_on_a_cycle classes.now (number_of file) }
     ensures { IfOk result (λ found. found ≡ first_of (causes classes.now Places file class.now)) }
 {
+    // The contract alone speaks of it.
     let _ = class;
     let _ = classes.class_count();
     if is_badly_placed(alloc, classes, CORE_CLASSES + file, on_cycle)? {
@@ -189,6 +194,7 @@ fn is_on_cycle(classes: &Classes, first: Option<u32>, class: u32) -> bool
     requires behind { IfSome first (λ d. class ≤ d) }
     ensures { result ≡ is_on_a_cycle classes.now class }
 {
+    // The contract alone speaks of it.
     let _ = classes;
     match first {
         Some(found) => found == class,
@@ -209,6 +215,7 @@ pub(crate) fn first_misplaced(
     ensures { IfOk result (λ found. found ≡ first_of (causes_in classes.now Places (files_in classes.now files))) }
 {
     for file in 0..files {
+        // Its clause is for the proof alone.
         let _ = classes.class_count();
         let class = class_of_file(classes, files, file);
         let on_cycle = is_on_cycle(classes, first, CORE_CLASSES + file);
@@ -236,6 +243,7 @@ fn refused_mention(
     requires implements { implements_all ≡ implements_each classes.now (number_of file) }
     ensures { IfOk result (λ found. found ≡ first_of (causes classes.now Mentions file class.now)) }
 {
+    // Its clause is for the proof alone.
     let _ = classes.classes().class_count();
     match first_unresolved(
         alloc,
@@ -257,6 +265,7 @@ fn implements_all(classes: &Hierarchy, implementing: &[bool], file: u32) -> bool
     requires each { (c : ℕ) → c < length classes.now → slice_index_or implementing.now c false ≡ implements_each classes.now c }
     ensures { result ≡ implements_each classes.now (number_of file) }
 {
+    // Its clause is for the proof alone.
     let _ = classes.classes().class_count();
     implementing[(CORE_CLASSES + file) as usize]
 }

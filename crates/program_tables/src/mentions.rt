@@ -205,6 +205,7 @@ fn add_class(
         (used_by op (kind_of_entry texts.now class.now.pool index))) }
     ensures added { OnOk result (AreArrays texts.now arrays.new) }
 {
+    // The contract alone speaks of it.
     let _ = class;
     let symbol = texts.class_symbol(number, index);
     if let Some(kind) = texts.kind(symbol) {

@@ -199,6 +199,7 @@ fn constant_meaning(tables: &Tables<'_>, current: u32, class: &ClassFile, entry:
     ensures special { (meaning_seen result).special ≡ constant_operand tables.now.classes.now class.now.pool entry.now }
     ensures guarded { (meaning_seen result).guarded ≡ false }
 {
+    // The contract alone speaks of it.
     let _ = class;
     let listed = tables.classes.classes();
     plain(constant_operand(listed, tables.numbers, current, entry))

@@ -69,6 +69,7 @@ impl Instances {
         requires class { class < length classes.now }
         ensures { result ≡ length (instance_fields classes.now class) }
     {
+        // The contract alone speaks of it.
         let _ = classes;
         self.counts[class as usize]
     }

@@ -127,6 +127,7 @@ impl Program {
     pub fn is_resolved(&self)
         ensures { IsResolved self.now }
     {
+        // The contract alone speaks of it.
         let _ = &self.classes;
     }
 

@@ -63,6 +63,7 @@ impl<const N: usize> StackCache<N> {
         ensures words { HoldsWords N self.now }
         ensures permitted { IsSize N }
     {
+        // The contract alone speaks of it.
         let _ = &self.words;
         (N - RESERVED_WORDS) as u32
     }

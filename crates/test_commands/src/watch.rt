@@ -28,6 +28,7 @@ fn run(alloc: Global, files: Vec<Option<Vec<u8>>>, watch: &mut MemWatch)
         &mut err,
         watch,
     );
+    // The contract alone speaks of it.
     let _ = outcome;
 }
 

@@ -44,6 +44,7 @@ impl NumberSet {
     pub fn is_distinct(&self)
         ensures { IsDistinct nat_eq self.now }
     {
+        // Its clause is for the proof alone.
         let _ = self.numbers.len();
     }
 

@@ -183,6 +183,7 @@ fn form_of(task: &Task<'_>, m: u32)
     ensures setting { IsBoundSetting task.now }
     ensures coded { (k : Coded) × (slice_get task.now.flow.methods m ≡ Some k) × IsCoded k }
 {
+    // Its clause is for the proof alone.
     let _timing = task.timing();
     let _code = task.method(m).code();
 }
@@ -191,6 +192,7 @@ fn form_of(task: &Task<'_>, m: u32)
 fn size_of(p: &Prepared)
     ensures { p.now.shape.size < 2 ^ 32 }
 {
+    // The contract alone speaks of it.
     let _size = p.shape.size;
 }
 

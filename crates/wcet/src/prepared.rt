@@ -126,6 +126,7 @@ pub fn prepare(
 {
     graphs_where_targets_end();
     costs_are_limited();
+    // Its clause is for the proof alone.
     let _ = task.method(m).calls();
     let Ok(told) = tell(alloc, task, m, table) else {
         return Err(BoundRefusal::NoMemory);

@@ -64,6 +64,7 @@ fn least_within(task: &Task<'_>, m: u32, table: &[Known], least: &[Option<u32>])
 {
     opcodes::laws::starts_follow_one_another();
     method_flow::laws::rows_are_of_their_kinds();
+    // Its clause is for the proof alone.
     let _ = task.flow().method_count();
     let called = least_called(task.flow(), task.method(m).calls(), least);
     lesser_of(called, large_alone(m, table[m as usize].too_large))

@@ -96,6 +96,7 @@ pub fn tell(alloc: Global, task: &Task<'_>, m: u32, table: &[Known]) -> Result<V
     requires limited { All IsLimited table.now }
     ensures told { IfOk result (λ v. AreToldIn task.now m table.now v.items) }
 {
+    // Its clause is for the proof alone.
     let _ = task.flow().method_count();
     let method = task.method(m);
     let back = load(method, task.timing().read);

@@ -25,6 +25,7 @@ impl<'a, const N: usize> Running<'a, N> {
         // The laws are for the proof.
         fitting_states_are_well_formed();
         stages_agree();
+        // The contract alone speaks of it.
         let _mode = self.mode;
         top_method(&self.machine, self.methods.as_slice())
     }
@@ -66,6 +67,7 @@ impl<'a, const N: usize> Running<'a, N> {
         // The laws are for the proof.
         fitting_states_are_well_formed();
         stages_agree();
+        // The contract alone speaks of it.
         let _mode = self.mode;
         frame_count(&self.machine, self.methods.as_slice())
     }

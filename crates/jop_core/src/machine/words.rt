@@ -13,6 +13,7 @@ impl<const N: usize> Machine<N> {
         ensures place { result ≡ place_of self.now place }
         ensures within { result < N }
     {
+        // The contract alone speaks of it.
         let _ = &self.sp;
         (place % N as u64) as u32
     }
