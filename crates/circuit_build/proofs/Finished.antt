@@ -13,12 +13,12 @@ use Rattle.netlist.specs.Evaluation.{words_with}
 use Rattle.netlist.specs.WellFormed.{Widths, width_of, widths_before, Drives, IsNet, IsExpression, AreWires}
 use Rattle.circuit_build.specs.Laws.{LogicSettles}
 
-index_before : (xs ys : List ℕ) (k : ℕ) → k < length xs → slice_index (xs ++ ys) k ≡ slice_index xs k
+pub index_before : (xs ys : List ℕ) (k : ℕ) → k < length xs → slice_index (xs ++ ys) k ≡ slice_index xs k
 index_before [] ys k h = absurd (omega (arith, h))
 index_before (x ∷ xs) ys zero h = refl
 index_before (x ∷ xs) ys (suc k) h = index_before xs ys k (omega (arith, h))
 
-index_at : (xs : List ℕ) (y : ℕ) → slice_index (xs ++ y ∷ []) (length xs) ≡ y
+pub index_at : (xs : List ℕ) (y : ℕ) → slice_index (xs ++ y ∷ []) (length xs) ≡ y
 index_at [] y = refl
 index_at (x ∷ xs) y = index_at xs y
 

@@ -1,14 +1,17 @@
 -- Well-formed logic, and a further wire that is well formed.
-use Rattle.std.proofs.Common.{◌≡◌, ℕ, zero, suc, List, [], ◌∷◌, ◌++◌, map, length, refl, sym, subst, Some}
+use Rattle.std.proofs.Common.{◌≡◌, ℕ, zero, suc, List, [], ◌∷◌, ◌++◌, map, length, refl, sym, ◌∙◌, subst, Some, false, ◌<◌, ◌^◌, arith}
 use Rattle.std.specs.Prelude.{slice_get}
 use Rattle.std.proofs.lemmas.List.{append-nil, append_assoc, map-append, length-map}
 use Rattle.netlist.specs.declared.net.Driver.{Driver}
 use Rattle.netlist.specs.declared.net.Driver.TheVariants.{Constant, Input, Register, ReadOut, Wire}
 use Rattle.netlist.specs.declared.net.Net.{Net}
+use Rattle.netlist.specs.declared.net.BinaryOperator.TheVariants.{Equal, Or}
 use Rattle.netlist.specs.declared.net.Expression.{Expression}
+use Rattle.netlist.specs.declared.net.Expression.TheVariants.{Binary}
 use Rattle.netlist.specs.WellFormed.{Widths, width_of, Drives, IsWidth, IsNet, IsExpression, AreWires}
-use Rattle.circuit_build.specs.Wiring.{Wiring}
-use Rattle.circuit_build.specs.Laws.{widths_with, IsLogic, StaysWell, WellFormedGrows}
+use Rattle.circuit_build.specs.Parts.{constant_net}
+use Rattle.circuit_build.specs.Wiring.{Wiring, Adds}
+use Rattle.circuit_build.specs.Laws.{widths_with, IsLogic, Grows, StaysWell, WellFormedGrows}
 
 -- with the widths of further wires
 abbrev with_more : Widths → List ℕ → Widths
@@ -78,3 +81,34 @@ stays parts old net e d a h = record {
 pub well_formed_grows : WellFormedGrows
 well_formed_grows parts old new net e a whole well h =
     subst (λ (l : Wiring). StaysWell parts old l net e) (sym (a.wires whole)) (stays parts old net e a.driver well h)
+
+-- ---- a net compared with a word, and the bit joined to another one
+
+pub not_lacking : (old new : Wiring) (net : Net) (e : Expression) → Adds old new net e → new.lacks ≡ false → old.lacks ≡ false
+not_lacking old new net e a h = subst (λ (l : Wiring). l.lacks ≡ false) (a.wires h) h
+
+one_wide : IsWidth 1
+one_wide = (omega arith, omega arith)
+
+pub begins : (parts : Widths) (a : Wiring) (net : Net) → net ≡ constant_net 1 0 → IsLogic parts a → Grows parts a a net
+begins parts a net is well = record {
+  logic = well;
+  net = subst (λ n. IsNet (widths_with parts a) n) (sym is) (record { width = one_wide; driver = omega arith });
+  others = λ other h. h;
+}
+
+pub grows_on : (parts : Widths) (a b c d : Wiring) (x any bit or : Net) (word : ℕ) → Adds b c bit (Binary Equal x (constant_net x.width word))
+    → bit.width ≡ 1 → Adds c d or (Binary Or any bit) → or.width ≡ any.width → any.width ≡ 1 → d.lacks ≡ false → word < 2 ^ x.width
+    → IsNet (widths_with parts a) x → Grows parts a b any → Grows parts a d or
+grows_on parts a b c d x any bit or word first wide second same one whole lt there g =
+    let whole_c : c.lacks ≡ false = not_lacking c d or (Binary Or any bit) second whole in
+    let at_b : IsNet (widths_with parts b) x = g.others x there in
+    let constant : IsNet (widths_with parts b) (constant_net x.width word) = record { width = at_b.width; driver = lt } in
+    let f = well_formed_grows parts b c bit (Binary Equal x (constant_net x.width word)) first whole_c g.logic (at_b, constant, refl) in
+    let bit_there : IsNet (widths_with parts c) bit = f.net wide (subst IsWidth (sym wide) one_wide) in
+    let h = well_formed_grows parts c d or (Binary Or any bit) second whole f.logic (f.others any g.net, bit_there, one ∙ sym wide) in
+    record {
+      logic = h.logic;
+      net = h.net same (subst IsWidth (sym (same ∙ one)) one_wide);
+      others = λ other o. h.others other (f.others other (g.others other o));
+    }

@@ -29,6 +29,12 @@ pub record StaysWell (parts : Widths) (old new : Wiring) (added : Net) (e : Expr
   pub net : added.width ≡ width_of e → IsWidth added.width → IsNet (widths_with parts new) added
   pub others : (other : Net) → IsNet (widths_with parts old) other → IsNet (widths_with parts new) other
 
+-- Well-formed logic came of well-formed logic, this net is there then, and so is each net that was.
+pub record Grows (parts : Widths) (old new : Wiring) (made : Net) : Type 0 where
+  pub logic : IsLogic parts new
+  pub net : IsNet (widths_with parts new) made
+  pub others : (other : Net) → IsNet (widths_with parts old) other → IsNet (widths_with parts new) other
+
 abbrev pub WellFormedGrows : Type 0
 WellFormedGrows = (parts : Widths) (old new : Wiring) (net : Net) (e : Expression) → Adds old new net e → new.lacks ≡ false
     → IsLogic parts old → IsExpression (widths_with parts old) e → StaysWell parts old new net e

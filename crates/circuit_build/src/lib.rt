@@ -7,7 +7,7 @@
 
 mod finishing;
 mod fitting;
-/// Laws of logic that is finished.
+/// Laws of logic, while it is made and when it is finished.
 pub mod laws;
 mod logic;
 mod nets;

@@ -1,0 +1,4 @@
+mod Boundaries
+mod Staying
+mod Keeping
+mod Counting
