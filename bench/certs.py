@@ -1,5 +1,5 @@
 #!/usr/bin/env python3
-"""certs.py [RUNS]: how long texts of certificates of 16 MiB take to be read and written, by the built `crates/test_certs/out/test_certs` or the one that the variable `CERTS` names.
+"""certs.py [RUNS]: how long texts of certificates of 16 MiB take to be read and written, by the built `crates/test_readers/out/test_readers` or the one that the variable `CERTS` names.
 
 Three rows are run for each text, the least of so many times (3 by default). One is refused at its first line, so that only the row is fetched; one is refused behind its last line,
 so it is read as well; and one is read, put together anew, written and compared. The differences are what reading takes, and what writing and comparing take.
@@ -11,7 +11,7 @@ import sys
 
 from timing import TOP, folder, put
 
-CERTS = os.environ.get('CERTS', os.path.join(TOP, 'crates/test_certs/out/test_certs'))
+CERTS = os.environ.get('CERTS', os.path.join(TOP, 'crates/test_readers/out/test_readers'))
 SIZE = 1 << 24
 END = '|bound 9'
 

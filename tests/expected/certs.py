@@ -1,8 +1,10 @@
 #!/usr/bin/env python3
-"""What texts of certificates are read as, by the words of the format: the rows of crates/test_certs. One that is
+"""What texts of certificates are read as, by the words of the format: the rows `cert` of crates/test_readers. One that is
 read is written so again, and of one behind a # only that is shown.
 
-    python3 certs.py < crates/test_certs/stdin > crates/test_certs/stdout
+    python3 certs.py < crates/test_readers/stdin
+
+prints the last lines of crates/test_readers/stdout.
 
 `tools/rechecker` reads them."""
 import os
@@ -27,7 +29,7 @@ def read(text):
 
 
 if __name__ == '__main__':
-    for row in sys.stdin.read().split('\n')[:-1]:
+    for row in (it.removeprefix('cert ') for it in sys.stdin.read().split('\n')[:-1] if it.startswith('cert ')):
         is_short = row.startswith('#')
         wanted = read(row[is_short:].replace('|', '\n').replace('^', '\r'))
         print('written' if is_short and wanted.endswith('written') else wanted)

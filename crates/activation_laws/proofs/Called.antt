@@ -7,7 +7,7 @@ use Rattle.method_flow.specs.Calls.{IsTarget}
 use Rattle.method_flow.specs.Shapes.{FramesStep}
 use Rattle.method_flow.specs.Shapes.FramesStep.{moves, enters, returns, drops, stops}
 use Rattle.machine_stands.specs.Comes.{top_method}
-use Rattle.activation_watch.specs.Watched.{cycles_of}
+use Rattle.run_follower.specs.Watch.Watched.{cycles_of}
 use Rattle.activations.specs.Setting.{Setting, IsSetting}
 use Rattle.activations.specs.Activations.{Stage, Follows, StaysAbove, depth, IsActivation}
 use Rattle.activations.specs.Activations as boundaries

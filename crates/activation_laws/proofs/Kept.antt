@@ -4,8 +4,8 @@ use Rattle.std.specs.Prelude.{MatchOption}
 use Rattle.std.proofs.lemmas.Bool.{cases_eq, eq-eqb, ne_eqb}
 use Rattle.lists.specs.Members.{at_head, in_tail}
 use Rattle.run_follower.specs.declared.here.Here.{Here}
-use Rattle.activation_watch.specs.declared.activation.Activation.{Activation}
-use Rattle.activation_watch.specs.Watched.{activations, of_method, profile_of, greatest, cycles_of}
+use Rattle.run_follower.specs.declared.watch.activation.Activation.{Activation}
+use Rattle.run_follower.specs.Watch.Watched.{activations, of_method, profile_of, greatest, cycles_of}
 use Rattle.method_flow.specs.declared.timing.Timing.{Timing}
 use Rattle.activations.specs.Setting.{Setting, IsSetting}
 use Rattle.activations.specs.Activations.{Stage, Follows}

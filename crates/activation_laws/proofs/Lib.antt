@@ -4,3 +4,4 @@ mod Once
 mod Within
 mod Kept
 mod Called
+pub mod CountedLemmas

@@ -9,8 +9,8 @@ use Rattle.jop_core.specs.Cycle.{asks_input}
 use Rattle.jop_core.specs.Keeps.{CyclesKeep}
 use Rattle.jop_core.specs.Scene.{Scene, next_scene, given, begun, run}
 use Rattle.run_follower.specs.declared.here.Here.{Here}
-use Rattle.activation_watch.specs.declared.activation.Activation.{Activation}
-use Rattle.activation_watch.specs.Watched.{has_frames, ended_with, begun_between, activations_from, activations}
+use Rattle.run_follower.specs.declared.watch.activation.Activation.{Activation}
+use Rattle.run_follower.specs.Watch.Watched.{has_frames, ended_with, begun_between, activations_from, activations}
 use Rattle.activations.specs.Setting.{Setting}
 use Rattle.activations.specs.Activations.{Stage, Follows}
 use Rattle.activation_laws.specs.Seen.{AreSeen, ActivationsAreSeenOnce}

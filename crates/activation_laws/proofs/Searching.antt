@@ -9,8 +9,8 @@ use Rattle.bytecode_model.specs.declared.Ending.TheVariants.{Running}
 use Rattle.bytecode_typing.specs.Fits.{IsGoing}
 use Rattle.machine_stands.specs.Comes.{top_method}
 use Rattle.run_follower.specs.declared.here.Here.{Here}
-use Rattle.activation_watch.specs.declared.activation.Activation.{Activation}
-use Rattle.activation_watch.specs.Watched.{has_frames, ended_with, begun_between, activations_from, activations}
+use Rattle.run_follower.specs.declared.watch.activation.Activation.{Activation}
+use Rattle.run_follower.specs.Watch.Watched.{has_frames, ended_with, begun_between, activations_from, activations}
 use Rattle.activations.specs.Setting.{Setting, IsSetting}
 use Rattle.activations.specs.Activations.{Stage, Follows, depth, StaysAbove, IsActivation}
 use Rattle.activations.specs.Steps.{PlacesTellWords, StepsAreTold}

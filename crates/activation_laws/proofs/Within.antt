@@ -13,7 +13,7 @@ use Rattle.bytecode_model.specs.Sizes.{body_words, frame_words, frames_words}
 use Rattle.bytecode_model.specs.WellFormed as formed
 use Rattle.bytecode_typing.specs.Laws.{FittingStatesAreWellFormed}
 use Rattle.run_follower.specs.declared.here.Here.{Here}
-use Rattle.activation_watch.specs.Promises.{RisingAreFew}
+use Rattle.run_follower.specs.Watch.Promises.{RisingAreFew}
 use Rattle.activations.specs.Setting.{Setting, IsSetting, Stands, limits}
 use Rattle.activations.specs.Activations.{Stage}
 use Rattle.activation_laws.specs.Seen.{IsSeen, AreSeen}

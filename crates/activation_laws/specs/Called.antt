@@ -1,8 +1,8 @@
 -- What the bound of a method says of the activations that a call begins.
 use Rattle.std.specs.Prelude.{◌≡◌, ℕ, ◌≤◌, List, Some}
 use Rattle.run_follower.specs.declared.here.Here.{Here}
-use Rattle.activation_watch.specs.declared.activation.Activation.{Activation}
-use Rattle.activation_watch.specs.Watched.{cycles_of}
+use Rattle.run_follower.specs.declared.watch.activation.Activation.{Activation}
+use Rattle.run_follower.specs.Watch.Watched.{cycles_of}
 use Rattle.method_flow.specs.declared.timing.Timing.{Timing}
 use Rattle.method_flow.specs.Calls.{IsTarget}
 use Rattle.method_flow.specs.Keeping.{BoundOf}

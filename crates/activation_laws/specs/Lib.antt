@@ -1,3 +1,4 @@
 pub mod Seen
 pub mod Profiled
 pub mod Called
+pub mod Counted

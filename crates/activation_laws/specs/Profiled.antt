@@ -2,10 +2,10 @@
 use Rattle.std.specs.Prelude.{◌≡◌, ℕ, ◌^◌, ◌<◌, ◌≤◌, List, [], ◌∷◌, All, MatchOption}
 use Rattle.std.specs.declared.option.Option.{Option}
 use Rattle.run_follower.specs.declared.here.Here.{Here}
-use Rattle.activation_watch.specs.declared.activation.Activation.{Activation}
-use Rattle.activation_watch.specs.declared.profile.Profile.{Profile}
-use Rattle.activation_watch.specs.Watched.{activations, of_method, profile_of}
-use Rattle.activation_watch.specs.Promises.{AreCountsWithin}
+use Rattle.run_follower.specs.declared.watch.activation.Activation.{Activation}
+use Rattle.run_follower.specs.declared.watch.profile.Profile.{Profile}
+use Rattle.run_follower.specs.Watch.Watched.{activations, of_method, profile_of}
+use Rattle.run_follower.specs.Watch.Promises.{AreCountsWithin}
 use Rattle.method_flow.specs.declared.timing.Timing.{Timing}
 use Rattle.method_flow.specs.Keeping.{BoundOf}
 use Rattle.activations.specs.Setting.{Setting, IsSetting, Stands}

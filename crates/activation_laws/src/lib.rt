@@ -2,6 +2,8 @@
 //! execution time speak. The definitions stand in `specs/`.
 #![tactic(auto)]
 
+pub mod counted;
+
 ghost use Rattle.activation_laws.specs.Seen.{ActivationsAreSeen, ActivationsAreSeenOnce};
 ghost use Rattle.activation_laws.specs.Profiled.{SeenAreWithin, ProfilesKeepBounds};
 ghost use Rattle.activation_laws.specs.Called.{CalledKeepBounds};
@@ -30,7 +32,7 @@ pub fn seen_are_within()
     // The laws are for the proof.
     bytecode_typing::fitting_states_are_well_formed();
     jop_core::laws::cycles_keep();
-    activation_watch::laws::rising_are_few();
+    run_follower::watch::laws::rising_are_few();
 }
 
 /// The greatest number of cycles that a profile tells of a method is within the method's bound, where its activations keep the bounds of

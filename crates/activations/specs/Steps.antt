@@ -3,7 +3,7 @@ use Rattle.std.specs.Prelude.{◌≡◌, ℕ, ◌+◌, ◌≤◌, true, List, []
 use Rattle.std.specs.declared.option.Option.{Option}
 use Rattle.base.specs.Packed.{words_of_bytes}
 use Rattle.method_cache.specs.Contents.{is_cached}
-use Rattle.cache_regions.specs.LookUps.{after, stall_of_loads}
+use Rattle.method_cache.specs.Regions.LookUps.{after, stall_of_loads}
 use Rattle.bytecode_model.specs.declared.Ending.TheVariants.{Running}
 use Rattle.bytecode_model.specs.State.{Frame}
 use Rattle.bytecode_model.specs.Program.{Program, Body, body_of}

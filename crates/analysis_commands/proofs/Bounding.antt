@@ -6,14 +6,14 @@ use Rattle.std.proofs.Math.Path.{fun_ext}
 use Rattle.std.proofs.lemmas.Bool.{true≢false}
 use Rattle.class_pool.specs.declared.class.ClassFile.{ClassFile}
 use Rattle.program_tables.specs.Resolved.{resolved}
-use Rattle.method_names.specs.Written.{written_name}
+use Rattle.name_laws.specs.Written.{written_name}
 use Rattle.command_line.specs.declared.command.Settings.{Settings}
 use Rattle.bytecode_model.specs.Program.{Program, Body, body_of}
 use Rattle.method_flow.specs.declared.timing.Timing.{Timing}
 use Rattle.method_flow.specs.Flow.{Coded, Flow, IsFlowOf}
 use Rattle.method_flow.specs.Keeping.{BoundOf}
 use Rattle.node_costs.specs.Costs as table
-use Rattle.bound_cert.specs.Certificate.{Certificate, IsInGrammar}
+use Rattle.certificates.specs.Certificate.{Certificate, IsInGrammar}
 use Rattle.bound_rules.specs.Conditions.{MeetsConditions}
 use Rattle.bound_rules.specs.Numbers.{IsPrinted}
 use Rattle.bound_rules.specs.declared.faults.BoundRefusal.{BoundRefusal}
@@ -22,7 +22,7 @@ use Rattle.bound_rules.specs.Bounding.{IsAsked, HasNoRecursion, AreReducible, Ha
 use Rattle.bound_causes.specs.declared.causes.Asked.{Asked}
 use Rattle.bound_causes.specs.Naming.{IsNamedBy}
 use Rattle.bound_causes.specs.Causes.{IsRootCause}
-use Rattle.wcet.specs.Ready.{IsSizeCause}
+use Rattle.bound_finder.specs.Ready.{IsSizeCause}
 use Rattle.answer_lines.specs.declared.bound.BoundCause.{BoundCause}
 use Rattle.analysis_commands.specs.declared.analysis.Analysis.{Analysis}
 use Rattle.analysis_commands.specs.declared.bound.NotBounded.{NotBounded}

@@ -6,15 +6,15 @@ use Rattle.std.proofs.Math.Path.{fun_ext}
 use Rattle.class_pool.specs.declared.class.ClassFile.{ClassFile}
 use Rattle.bytecode_model.specs.Program.{Program}
 use Rattle.program_tables.specs.Resolved.{resolved}
-use Rattle.method_names.specs.Written.{written_name}
+use Rattle.name_laws.specs.Written.{written_name}
 use Rattle.method_flow.specs.Flow.{Coded, Flow, IsFlowOf}
 use Rattle.loop_rules.specs.declared.found.FoundLoop.{FoundLoop}
 use Rattle.loop_rules.specs.Sites.{Sites, AreIntSites, constants_in}
-use Rattle.further_rules.specs.Known.{Known}
-use Rattle.further_rules.specs.Found.{Table, only_constants}
-use Rattle.further_rules.specs.Arrays.{AreApart, AreMethodArrays, AreTables, IsKnownBy}
+use Rattle.loop_rules.specs.Further.Known.{Known}
+use Rattle.loop_rules.specs.Further.Found.{Table, only_constants}
+use Rattle.loop_rules.specs.Further.Arrays.{AreApart, AreMethodArrays, AreTables, IsKnownBy}
 use Rattle.loop_finder.specs.Further.{AreCountedFurther}
-use Rattle.int_sites.specs.Constants.{AreConstants}
+use Rattle.program_sites.specs.Ints.Constants.{AreConstants}
 use Rattle.array_fields.specs.Lengths.{FieldLengths, known_by}
 use Rattle.array_fields.specs.Laws.{KnownFieldsAreApart}
 use Rattle.analysis_commands.specs.Answers.{table_name}

@@ -1,8 +1,6 @@
 pub mod Lifting
 pub mod Bounding
-mod LoopLines
-mod FurtherLines
-mod Needs
-mod Planning
-mod Slotting
-mod Shaping
+pub mod LoopLines
+pub mod FurtherLines
+pub mod Needs
+pub mod Shaping

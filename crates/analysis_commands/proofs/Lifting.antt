@@ -8,12 +8,12 @@ use Rattle.std.proofs.lemmas.Option.{slice_get_within, slice_get_cases}
 use Rattle.lists.proofs.Lemmas.{none≢some}
 use Rattle.class_pool.specs.declared.class.ClassFile.{ClassFile}
 use Rattle.program_tables.specs.Resolved.{resolved}
-use Rattle.method_names.specs.Written.{written_name}
-use Rattle.linked_methods.specs.declared.fitting.TooLong.{TooLong}
-use Rattle.linked_methods.specs.Fitting.{IsFirst}
+use Rattle.name_laws.specs.Written.{written_name}
+use Rattle.jopizer.specs.declared.methods.fitting.TooLong.{TooLong}
+use Rattle.jopizer.specs.Methods.Fitting.{IsFirst}
 use Rattle.command_line.specs.declared.command.Settings.{Settings}
-use Rattle.loop_bounds.specs.Bounds.{LoopBound, bound_in}
-use Rattle.loop_bounds.specs.Grammar.{IsRead}
+use Rattle.bound_texts.specs.Loops.Bounds.{LoopBound, bound_in}
+use Rattle.bound_texts.specs.Loops.Grammar.{IsRead}
 use Rattle.bytecode_model.specs.Lists.{onto}
 use Rattle.bytecode_model.specs.Program.{Program, Body, body_of}
 use Rattle.method_flow.specs.declared.timing.Timing.{Timing}
@@ -21,8 +21,8 @@ use Rattle.method_flow.specs.Flow.{Coded, Flow, IsFlowOf}
 use Rattle.method_flow.specs.Keeping.{BoundOf}
 use Rattle.node_costs.specs.Costs as table
 use Rattle.ascii_text.specs.Line.{lines_of as text_lines}
-use Rattle.bound_cert.specs.Certificate.{Certificate}
-use Rattle.bound_cert.specs.Texts.{AreLinesOf}
+use Rattle.certificates.specs.Certificate.{Certificate}
+use Rattle.certificates.specs.Texts.{AreLinesOf}
 use Rattle.bound_rules.specs.declared.faults.CheckFault.{CheckFault}
 use Rattle.bound_rules.specs.declared.faults.CheckFault.TheVariants as faults
 use Rattle.bound_rules.specs.Conditions.{MeetsConditions}

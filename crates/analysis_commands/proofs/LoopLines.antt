@@ -5,12 +5,12 @@ use Rattle.std.specs.declared.alloc.Global.{Global}
 use Rattle.std.proofs.Math.Path.{fun_ext}
 use Rattle.class_pool.specs.declared.class.ClassFile.{ClassFile}
 use Rattle.program_tables.specs.Resolved.{resolved}
-use Rattle.method_names.specs.Written.{written_name}
+use Rattle.name_laws.specs.Written.{written_name}
 use Rattle.method_flow.specs.Flow.{Coded, Flow, IsFlowOf}
 use Rattle.loop_rules.specs.declared.found.FoundLoop.{FoundLoop}
 use Rattle.loop_rules.specs.Finding.{AreCountedLoops}
 use Rattle.loop_rules.specs.Sites.{int_at}
-use Rattle.int_sites.specs.Constants.{AreConstants}
+use Rattle.program_sites.specs.Ints.Constants.{AreConstants}
 use Rattle.analysis_commands.specs.Answers.{table_name}
 use Rattle.analysis_commands.specs.Loops.{found_line, AreLoopLines, AreLoopLinesBy}
 use Rattle.analysis_commands.proofs.Lifting.{named}

@@ -13,7 +13,7 @@ use Rattle.base.specs.Packed.{words_for}
 use Rattle.class_pool.specs.declared.class.ClassFile.{ClassFile}
 use Rattle.program_tables.specs.Resolved.{resolved}
 use Rattle.bytecode_model.specs.Program.{Program, Body, body_of}
-use Rattle.linked_methods.specs.Fitting.{IsFirst, code_blocks}
+use Rattle.jopizer.specs.Methods.Fitting.{IsFirst, code_blocks}
 use Rattle.command_line.specs.declared.command.Settings.{Settings}
 use Rattle.command_line.specs.Range.{AreSettings}
 use Rattle.method_flow.specs.declared.timing.Timing.{Timing}

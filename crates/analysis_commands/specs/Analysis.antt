@@ -2,11 +2,11 @@
 use Rattle.std.specs.Prelude.{◌≡◌, ℕ, ◌++◌, List, Some, None, codes, decimal, slice_get}
 use Rattle.class_pool.specs.declared.class.ClassFile.{ClassFile}
 use Rattle.program_tables.specs.Resolved.{resolved}
-use Rattle.method_names.specs.Written.{written_name}
-use Rattle.linked_methods.specs.Fitting.{MethodFits, IsFirst}
+use Rattle.name_laws.specs.Written.{written_name}
+use Rattle.jopizer.specs.Methods.Fitting.{MethodFits, IsFirst}
 use Rattle.command_line.specs.declared.command.Settings.{Settings}
-use Rattle.loop_bounds.specs.Bounds.{LoopBound, bound_in}
-use Rattle.loop_bounds.specs.Grammar.{IsRead, IsReadTo, IsMalformed, IsTwice}
+use Rattle.bound_texts.specs.Loops.Bounds.{LoopBound, bound_in}
+use Rattle.bound_texts.specs.Loops.Grammar.{IsRead, IsReadTo, IsMalformed, IsTwice}
 use Rattle.bytecode_model.specs.Lists.{onto}
 use Rattle.bytecode_model.specs.Program.{body_of}
 use Rattle.method_flow.specs.declared.timing.Timing.{Timing}

@@ -3,12 +3,12 @@ use Rattle.std.specs.Prelude.{◌≡◌, ◌⊎◌, ℕ, List, Some, None, slice
 use Rattle.ascii_text.specs.Line.{lines_of as text_lines}
 use Rattle.method_flow.specs.Flow.{Flow}
 use Rattle.node_costs.specs.Costs.{bounds_of}
-use Rattle.bound_cert.specs.Certificate.{Certificate}
-use Rattle.bound_cert.specs.Texts.{AreLinesOf, IsFirstRefusedLine}
+use Rattle.certificates.specs.Certificate.{Certificate}
+use Rattle.certificates.specs.Texts.{AreLinesOf, IsFirstRefusedLine}
 use Rattle.bound_rules.specs.declared.faults.CheckFault.TheVariants as faults
 use Rattle.cert_checker.specs.Answer.{Meets, Refuses}
 use Rattle.analysis_commands.specs.declared.analysis.Analysis.{Analysis}
-use Rattle.linked_methods.specs.declared.fitting.TooLong.{TooLong}
+use Rattle.jopizer.specs.declared.methods.fitting.TooLong.{TooLong}
 use Rattle.analysis_commands.specs.declared.analysis.AnalysisFault.{AnalysisFault}
 use Rattle.analysis_commands.specs.declared.analysis.AnalysisFault.TheVariants.{MethodTooLong, BadBounds, TwiceBound, NoMemory as WithoutMemory}
 use Rattle.analysis_commands.specs.declared.check.Held.{Held}

@@ -4,8 +4,8 @@ use Rattle.ascii_text.specs.Line.{lines_of as text_lines}
 use Rattle.bytecode_model.specs.Program.{Program}
 use Rattle.method_flow.specs.Flow.{IsFlowOf}
 use Rattle.node_costs.specs.Costs.{bounds_of}
-use Rattle.bound_cert.specs.Certificate.{Certificate}
-use Rattle.bound_cert.specs.Texts.{AreLinesOf, text_of}
+use Rattle.certificates.specs.Certificate.{Certificate}
+use Rattle.certificates.specs.Texts.{AreLinesOf, text_of}
 use Rattle.bound_rules.specs.declared.faults.BoundRefusal.{BoundRefusal}
 use Rattle.bound_rules.specs.Bounding.{IsAsked, IsCause, KeepSize}
 use Rattle.bound_rules.specs.Conditions.{MeetsConditions}
@@ -13,7 +13,7 @@ use Rattle.bound_rules.specs.Numbers.{IsPrinted}
 use Rattle.bound_causes.specs.declared.causes.Asked.{Asked}
 use Rattle.bound_causes.specs.Naming.{IsNamedBy}
 use Rattle.bound_causes.specs.Ready.{IsReady, AreInTable}
-use Rattle.wcet.specs.Ready.{IsSizeCause}
+use Rattle.bound_finder.specs.Ready.{IsSizeCause}
 use Rattle.answer_lines.specs.declared.bound.BoundCause.{BoundCause}
 use Rattle.analysis_commands.specs.declared.analysis.Analysis.{Analysis}
 use Rattle.analysis_commands.specs.declared.bound.NotBounded.{NotBounded}

@@ -6,5 +6,3 @@ pub mod BoundAnswers
 pub mod Loops
 pub mod Memory
 pub mod Shapes
-pub mod Plan
-pub mod PlanAnswers

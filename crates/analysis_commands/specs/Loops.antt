@@ -6,11 +6,11 @@ use Rattle.method_flow.specs.Flow.{Flow, IsFlowOf}
 use Rattle.loop_rules.specs.declared.found.FoundLoop.{FoundLoop}
 use Rattle.loop_rules.specs.Finding.{AreCountedLoops}
 use Rattle.loop_rules.specs.Sites.{int_at}
-use Rattle.further_rules.specs.Known.{Known}
-use Rattle.further_rules.specs.Found.{Table}
-use Rattle.further_rules.specs.Arrays.{AreTables, IsKnownBy}
+use Rattle.loop_rules.specs.Further.Known.{Known}
+use Rattle.loop_rules.specs.Further.Found.{Table}
+use Rattle.loop_rules.specs.Further.Arrays.{AreTables, IsKnownBy}
 use Rattle.loop_finder.specs.Further.{AreCountedFurther}
-use Rattle.int_sites.specs.Constants.{AreConstants}
+use Rattle.program_sites.specs.Ints.Constants.{AreConstants}
 use Rattle.answer_lines.specs.LoopLine.{loop_line}
 use Rattle.analysis_commands.specs.Analysis.{named_or_number}
 use Rattle.analysis_commands.specs.Answers.{table_name}

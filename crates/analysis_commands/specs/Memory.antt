@@ -3,9 +3,9 @@ use Rattle.std.specs.Prelude.{◌≡◌, ℕ, List, [], ◌++◌, Option, Some, 
 use Rattle.class_pool.specs.declared.class.ClassFile.{ClassFile}
 use Rattle.program_tables.specs.Resolved.{resolved}
 use Rattle.bytecode_model.specs.Program.{Program}
-use Rattle.loop_bounds.specs.declared.BoundsFault.TheVariants.{Line, Twice}
-use Rattle.loop_bounds.specs.Bounds.{LoopBound}
-use Rattle.loop_bounds.specs.Grammar.{IsRead, AreBoundsRefused, IsReadLengths, IsRefusedLengths}
+use Rattle.bound_texts.specs.declared.loops.BoundsFault.TheVariants.{Line, Twice}
+use Rattle.bound_texts.specs.Loops.Bounds.{LoopBound}
+use Rattle.bound_texts.specs.Loops.Grammar.{IsRead, AreBoundsRefused, IsReadLengths, IsRefusedLengths}
 use Rattle.method_flow.specs.Keeping.{BoundOf}
 use Rattle.memory_rules.specs.declared.needs.Need.{Need}
 use Rattle.memory_rules.specs.declared.causes.NeedCause.{NeedCause}

@@ -3,7 +3,7 @@ use Rattle.std.specs.Prelude.{◌≡◌, ℕ, ◌≤◌, List, [], ◌∷◌, �
 use Rattle.std.specs.List.{AllZip}
 use Rattle.class_pool.specs.declared.class.ClassFile.{ClassFile}
 use Rattle.command_line.specs.declared.command.Settings.{Settings}
-use Rattle.bound_cert.specs.CertLines.{bound_text}
+use Rattle.certificates.specs.CertLines.{bound_text}
 use Rattle.answer_lines.specs.declared.bound.BoundCause.{BoundCause}
 use Rattle.answer_lines.specs.declared.bound.BoundCause.TheVariants as causes
 use Rattle.analysis_commands.specs.declared.analysis.AnalysisFault.{AnalysisFault}

@@ -2,20 +2,20 @@
 ghost use Rattle.std.specs.Prelude.{◌≡◌, ◌≤◌, ℕ, length, IfOk, IfErr, Some, slice_get};
 ghost use Rattle.base.specs.Sizes.{longest_file};
 ghost use Rattle.command_line.specs.Range.{AreSettings};
-ghost use Rattle.loop_bounds.specs.Grammar.{IsRead};
+ghost use Rattle.bound_texts.specs.Loops.Grammar.{IsRead};
 ghost use Rattle.method_flow.specs.Flow.{Coded, IsFlowOf};
 ghost use Rattle.program_tables.specs.Resolved.{resolved};
-ghost use Rattle.method_names.specs.Written.{written_name};
+ghost use Rattle.name_laws.specs.Written.{written_name};
 ghost use Rattle.analysis_commands.specs.Analysis.{timing_of, IsAnalysisOf, IsBoundsFault, IsAnalysisFault};
 ghost use Rattle.analysis_commands.specs.Answers.{IsMethodTooLong};
 
 use crate::names::table_name;
 use base::NoMemory;
+use bound_texts::loops::{Bounds, BoundsFault, read_bounds};
 use bytecode_verifier::Verified;
 use command_line::Settings;
-use flow_program::flow_of;
-use linked_methods::{TooLong, first_too_long};
-use loop_bounds::{Bounds, BoundsFault, read_bounds};
+use flow_table::flow_of;
+use jopizer::methods::{TooLong, first_too_long};
 use method_flow::{FlowProgram, Timing};
 use std::alloc::Global;
 

@@ -7,7 +7,7 @@ ghost use Rattle.analysis_commands.specs.Bounding.{IsCertText, IsBoundNumber, Is
 ghost use Rattle.analysis_commands.specs.BoundAnswers.{IsOfProgram, IsBoundText, IsBoundNumberOf, IsCauseOf, IsNotBoundedBy};
 
 use crate::analysis::{Analysis, AnalysisFault, analysis_of, bounds_in};
-use crate::certificates::{certificate_of, certificate_text};
+use crate::certifying::{certificate_of, certificate_text};
 use crate::subjects::{cause_of, subject_of};
 use answer_lines::BoundCause;
 use bound_rules::BoundRefusal;

@@ -3,16 +3,16 @@ ghost use Rattle.std.specs.Prelude.{◌≡◌, ◌≤◌, ◌<◌, length, IfOk,
 ghost use Rattle.base.specs.Sizes.{longest_file};
 ghost use Rattle.ascii_text.specs.Line.{lines_of as text_lines};
 ghost use Rattle.command_line.specs.Range.{AreSettings};
-ghost use Rattle.bound_cert.specs.Texts.{AreLinesOf};
+ghost use Rattle.certificates.specs.Texts.{AreLinesOf};
 ghost use Rattle.analysis_commands.specs.Answers.{IsTextFault, IsHeldInText, IsRefusedInText, IsBareTextRefusal};
 ghost use Rattle.analysis_commands.specs.Checking.{first_method, IsHeld, IsCheckRefusal, IsBareRefusal};
 
 use crate::analysis::{Analysis, AnalysisFault, analysis_of, bounds_in};
 use crate::conditions::check_certificate;
 use crate::names::number_text;
-use bound_cert::{Cert, CertFault, read_cert};
 use bound_rules::CheckFault;
 use bytecode_verifier::Verified;
+use certificates::{Cert, CertFault, read_cert};
 use command_line::Settings;
 use std::alloc::Global;
 

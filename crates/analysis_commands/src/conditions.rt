@@ -1,7 +1,7 @@
 //! The conditions on a certificate, checked by the table of a program.
 ghost use Rattle.std.specs.Prelude.{◌≡◌, ◌≤◌, ◌<◌, IfOk, IfErr};
 ghost use Rattle.node_costs.specs.Costs.{bounds_of};
-ghost use Rattle.bound_cert.specs.Certificate.{IsInGrammar};
+ghost use Rattle.certificates.specs.Certificate.{IsInGrammar};
 ghost use Rattle.cert_checker.specs.Answer.{Meets, Refuses};
 ghost use Rattle.analysis_commands.specs.Answers.{IsHeldBy, IsRefusedBy};
 ghost use Rattle.analysis_commands.specs.Checking.{method_of};
@@ -9,9 +9,9 @@ ghost use Rattle.analysis_commands.specs.Checking.{method_of};
 use crate::analysis::Analysis;
 use crate::check::{CheckRefusal, Held};
 use crate::names::table_name;
-use bound_cert::Cert;
 use bound_rules::CheckFault;
 use cert_checker::check;
+use certificates::Cert;
 use std::alloc::Global;
 
 /// The method that a fault speaks of.

@@ -12,12 +12,12 @@ use answer_lines::put_loop_line;
 use array_fields::{arrays_read, field_arrays};
 use base::NoMemory;
 use bytecode_verifier::Verified;
-use further_finder::{known_by_constants, known_tables};
-use further_rules::KnownTable;
-use int_sites::int_sites;
+use known_ints::{known_by_constants, known_tables};
 use loop_finder::{find, find_further};
+use loop_rules::further::KnownTable;
 use loop_rules::{FoundLoop, IntSites};
 use method_flow::FlowProgram;
+use program_sites::ints::int_sites;
 use resolved_program::Program;
 use std::alloc::Global;
 

@@ -1,7 +1,7 @@
 //! What a run of a program needs of memory, by the bounds of its loops and the lengths of its arrays.
 ghost use Rattle.std.specs.Prelude.{◌≡◌, ◌≤◌, length, IfOk, IfErr};
 ghost use Rattle.base.specs.Sizes.{longest_file};
-ghost use Rattle.loop_bounds.specs.Grammar.{IsReadLengths};
+ghost use Rattle.bound_texts.specs.Loops.Grammar.{IsReadLengths};
 ghost use Rattle.method_flow.specs.Flow.{IsFlowOf};
 ghost use Rattle.node_costs.specs.Costs as table;
 ghost use Rattle.program_tables.specs.Resolved.{resolved};
@@ -15,12 +15,12 @@ use crate::analysis::table_of;
 use crate::names::table_name;
 use crate::subjects::{name_and_nodes, names_text};
 use base::NoMemory;
+use bound_texts::loops::{Bounds, BoundsFault, read_bounds, read_lengths};
 use bytecode_verifier::Verified;
-use loop_bounds::{Bounds, BoundsFault, read_bounds, read_lengths};
-use made_sites::sites_of;
 use memory_bound::need;
 use memory_rules::{Need, NeedCause, NeedFault};
 use method_flow::FlowProgram;
+use program_sites::made::sites_of;
 use resolved_program::Program;
 use std::alloc::Global;
 

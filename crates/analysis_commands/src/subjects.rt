@@ -1,6 +1,6 @@
 //! What the lines of bounds that aren't given name.
 ghost use Rattle.std.specs.Prelude.{◌≡◌, ◌++◌, IfOk, OnOk, codes, map};
-ghost use Rattle.bound_cert.specs.CertLines.{node_text};
+ghost use Rattle.certificates.specs.CertLines.{node_text};
 ghost use Rattle.answer_lines.specs.AnalysisLines.{names_text, nodes_text};
 ghost use Rattle.analysis_commands.specs.Answers.{table_name};
 ghost use Rattle.analysis_commands.specs.Bounding.{cause_of, subject_of};
@@ -14,7 +14,7 @@ use method_flow::FlowProgram;
 use std::alloc::Global;
 
 /// The cause of a refusal in numbers, but of want of memory.
-pub(crate) fn cause_of(refusal: &BoundRefusal) -> Option<BoundCause>
+pub fn cause_of(refusal: &BoundRefusal) -> Option<BoundCause>
     ensures { result ≡ cause_of refusal.now }
 {
     match refusal {
@@ -89,7 +89,7 @@ pub(crate) fn name_and_nodes(
 }
 
 /// What the line of a refusal names.
-pub(crate) fn subject_of(
+pub fn subject_of(
     alloc: Global,
     flow: &FlowProgram,
     refusal: &BoundRefusal,

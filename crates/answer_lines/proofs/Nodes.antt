@@ -1,7 +1,7 @@
 -- The text of a node is its place and its mark.
 use Rattle.std.proofs.Common.{◌≡◌, ℕ, List, ◌∷◌, ◌++◌, sym, ◌∙◌, ap, append_assoc}
 use Rattle.std.specs.Prelude.{◌/◌, decimal}
-use Rattle.bound_cert.specs.CertLines.{node_text}
+use Rattle.certificates.specs.CertLines.{node_text}
 
 pub node_then : (u : ℕ) (mark rest : List ℕ) → node_text u ≡ decimal (u / 2) ++ mark → decimal (u / 2) ++ (mark ++ rest) ≡ node_text u ++ rest
 node_then u mark rest is = sym (append_assoc (decimal (u / 2)) mark rest) ∙ ap (λ (t : List ℕ). t ++ rest) (sym is)

@@ -1,6 +1,6 @@
 -- The lines that say how the analysis of an image ended. Each line is its parts, one after another.
 use Rattle.std.specs.Prelude.{ℕ, List, [], ◌∷◌, ◌++◌, Option, codes, decimal, flat_map}
-use Rattle.bound_cert.specs.CertLines.{node_text, bound_text}
+use Rattle.certificates.specs.CertLines.{node_text, bound_text}
 use Rattle.bound_rules.specs.declared.faults.CheckFault.{CheckFault}
 use Rattle.bound_rules.specs.declared.faults.CheckFault.TheVariants.{Missing, Member, Edge, Exit, Region, NoMemory}
 use Rattle.answer_lines.specs.declared.bound.BoundCause.{BoundCause}

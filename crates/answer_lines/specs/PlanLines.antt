@@ -1,6 +1,6 @@
 -- The lines of plans of a cyclic executive that aren't kept. Each line is its parts, one after another.
 use Rattle.std.specs.Prelude.{ℕ, List, [], ◌∷◌, Option, codes, decimal}
-use Rattle.bound_cert.specs.CertLines.{bound_text}
+use Rattle.certificates.specs.CertLines.{bound_text}
 use Rattle.answer_lines.specs.declared.plan.PlanCause.{PlanCause}
 use Rattle.answer_lines.specs.declared.plan.PlanCause.TheVariants.{Slot, Late}
 use Rattle.answer_lines.specs.AnalysisLines.{cause_tail}

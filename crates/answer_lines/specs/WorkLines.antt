@@ -1,7 +1,7 @@
 -- The line that says what came of a program that was made to be run and bounded. It is its parts, one after another.
 use Rattle.std.specs.Prelude.{ℕ, List, [], ◌∷◌, ◌++◌, map, Option, codes, decimal}
 use Rattle.std.specs.List.{concat, join_with_byte}
-use Rattle.bound_cert.specs.CertLines.{bound_text}
+use Rattle.certificates.specs.CertLines.{bound_text}
 use Rattle.answer_lines.specs.declared.line.Counts.{Counts}
 
 -- bytes in decimal, with a space between two

@@ -3,7 +3,7 @@ ghost use Rattle.std.specs.Prelude.{◌≡◌, ◌++◌, ◌/◌, ◌%◌, [], �
 ghost use Rattle.std.specs.List.{concat};
 ghost use Rattle.outside.specs.Outside.{HasCause};
 ghost use Rattle.answer_lines.specs.Said.{Said};
-ghost use Rattle.bound_cert.specs.CertLines.{node_text};
+ghost use Rattle.certificates.specs.CertLines.{node_text};
 ghost use Rattle.answer_lines.specs.AnalysisLines.{held_parts, fault_parts};
 
 use crate::{Piece, say_pieces};

@@ -2,7 +2,7 @@
 ghost use Rattle.std.specs.Prelude.{◌≡◌, false};
 ghost use Rattle.std.specs.List.{concat};
 ghost use Rattle.outside.specs.Outside.{HasCause};
-ghost use Rattle.bound_cert.specs.CertLines.{bound_text};
+ghost use Rattle.certificates.specs.CertLines.{bound_text};
 ghost use Rattle.answer_lines.specs.Put.{piece_text};
 ghost use Rattle.answer_lines.specs.Said.{Said};
 ghost use Rattle.answer_lines.specs.PlanLines.{late_parts, plan_parts};

@@ -1,7 +1,7 @@
 //! The line, piece by piece.
 ghost use Rattle.std.specs.Prelude.{◌≡◌, ◌==◌, ◌++◌, [], ◌∷◌, OnOk, IfOk, decimal, if◌then◌else◌};
 ghost use Rattle.std.specs.List.{concat};
-ghost use Rattle.bound_cert.specs.CertLines.{bound_text};
+ghost use Rattle.certificates.specs.CertLines.{bound_text};
 ghost use Rattle.answer_lines.specs.WorkLines.{bytes_text, start_parts, counts_parts, end_parts, work_line};
 
 use crate::Counts;

@@ -10,8 +10,8 @@ use Rattle.class_pool.specs.declared.class.ClassFile.{ClassFile}
 use Rattle.bytecode_model.specs.Program.{Program, Body, body_of}
 use Rattle.program_tables.specs.Laws.{MethodsStandByNumber}
 use Rattle.program_tables.specs.Resolved.{resolved}
-use Rattle.further_rules.specs.Known.{Known}
-use Rattle.further_rules.specs.Arrays.{AreArraysRead, AreMethodArrays}
+use Rattle.loop_rules.specs.Further.Known.{Known}
+use Rattle.loop_rules.specs.Further.Arrays.{AreArraysRead, AreMethodArrays}
 use Rattle.array_fields.specs.Lengths.{FieldLengths, known_by, array_read, AreIntsOf, AreArraysBelow}
 use Rattle.array_fields.proofs.Coding.{code_at, code_of_body, coded_first}
 use Rattle.array_fields.proofs.Lining.{reads_are}

@@ -12,7 +12,7 @@ use Rattle.bytecode_model.specs.Rows.{Row}
 use Rattle.code_lines.specs.Lines.{IsLine}
 use Rattle.program_tables.specs.Laws.{MethodsStandByNumber}
 use Rattle.program_tables.specs.Resolved.{resolved}
-use Rattle.further_rules.specs.Found.{Table}
+use Rattle.loop_rules.specs.Further.Found.{Table}
 use Rattle.array_fields.specs.declared.rows.Field.{Field}
 use Rattle.array_fields.specs.declared.puts.Put.{Put}
 use Rattle.array_fields.specs.Rows.{put_at}

@@ -7,7 +7,7 @@ use Rattle.std.proofs.lemmas.List.Elements.{Contains-push, Contains-push_cases, 
 use Rattle.std.proofs.Math.ListN.{get_or-eq_default}
 use Rattle.lists.proofs.Lemmas.{none≢some}
 use Rattle.lists.specs.Members.{nil_contains}
-use Rattle.further_rules.specs.Arrays.{length_at}
+use Rattle.loop_rules.specs.Further.Arrays.{length_at}
 use Rattle.array_fields.specs.Lengths.{AreIntsOf}
 
 module _ (value : ℕ → Option ℤ) where

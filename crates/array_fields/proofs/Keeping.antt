@@ -10,7 +10,7 @@ use Rattle.bytecode_model.specs.Program.{Program}
 use Rattle.class_lookup.specs.Laws.{HierarchyLaw}
 use Rattle.program_tables.specs.Resolved.{resolved}
 use Rattle.program_tables.specs.Resolving.{IsResolved}
-use Rattle.further_rules.specs.Arrays.{length_at}
+use Rattle.loop_rules.specs.Further.Arrays.{length_at}
 use Rattle.array_fields.specs.declared.puts.Put.{Put}
 use Rattle.array_fields.specs.declared.contents.Content.{Content}
 use Rattle.array_fields.specs.declared.contents.Content.TheVariants.{Unput, Arrays, Anything}

@@ -14,11 +14,11 @@ use Rattle.bytecode_model.specs.Rows as rows
 use Rattle.bytecode_model.specs.Rows.{Row}
 use Rattle.code_lines.specs.Lines.{IsLine}
 use Rattle.program_tables.specs.Resolved.{resolved}
-use Rattle.further_rules.specs.declared.table.KnownInt.{KnownInt}
-use Rattle.further_rules.specs.Known.{Known, PushesArray}
-use Rattle.further_rules.specs.Found.{Table, known_at, only_constants}
-use Rattle.further_rules.specs.Fields.{IsReferenceType}
-use Rattle.further_rules.specs.Arrays.{GivesArray, WritesStatic, WritesField, AllGive, IsStaticArray, IsFieldArray, IsKnownBy, AreTables, length_at}
+use Rattle.loop_rules.specs.declared.further.table.KnownInt.{KnownInt}
+use Rattle.loop_rules.specs.Further.Known.{Known, PushesArray}
+use Rattle.loop_rules.specs.Further.Found.{Table, known_at, only_constants}
+use Rattle.loop_rules.specs.Further.Fields.{IsReferenceType}
+use Rattle.loop_rules.specs.Further.Arrays.{GivesArray, WritesStatic, WritesField, AllGive, IsStaticArray, IsFieldArray, IsKnownBy, AreTables, length_at}
 use Rattle.array_fields.specs.declared.rows.Field.{Field}
 use Rattle.array_fields.specs.declared.rows.Field.TheVariants.{Static, Instance}
 use Rattle.array_fields.specs.declared.puts.Put.{Put}

@@ -9,7 +9,7 @@ use Rattle.bytecode_model.specs.Rows as rows
 use Rattle.bytecode_model.specs.Rows.{Row}
 use Rattle.bytecode_model.specs.Steps.{row_in}
 use Rattle.code_lines.specs.Lines.{IsLine}
-use Rattle.further_rules.specs.Arrays.{ReadsArray}
+use Rattle.loop_rules.specs.Further.Arrays.{ReadsArray}
 use Rattle.array_fields.specs.declared.rows.Field.{Field}
 use Rattle.array_fields.specs.declared.rows.Field.TheVariants.{Static, Instance}
 use Rattle.array_fields.specs.Rows.{read_by, put_by, read_at, put_at}

@@ -26,7 +26,7 @@ use Rattle.program_tables.specs.Resolved.{resolved, raised_object, string_object
 use Rattle.program_tables.specs.Resolving.{IsResolved}
 use Rattle.class_lookup.specs.Parts.{name_of, superclass_name}
 use Rattle.program_laws.proofs.Objects.{class_type}
-use Rattle.further_rules.specs.Fields.{IsReferenceType}
+use Rattle.loop_rules.specs.Further.Fields.{IsReferenceType}
 use Rattle.array_fields.specs.Contents.{flag_at}
 use Rattle.array_fields.specs.First.{has_first_object, is_null, is_reference}
 use Rattle.array_fields.specs.Lengths.{HasNoFirstObject}

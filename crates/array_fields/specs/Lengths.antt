@@ -8,9 +8,9 @@ use Rattle.bytecode_model.specs.declared.Value.TheVariants.{Null}
 use Rattle.bytecode_model.specs.State.{Object}
 use Rattle.bytecode_model.specs.Program.{Program, body_of, kind_of}
 use Rattle.bytecode_model.specs.Effects.{has_class}
-use Rattle.further_rules.specs.Known.{Known}
-use Rattle.further_rules.specs.Fields.{IsReferenceType}
-use Rattle.further_rules.specs.Arrays.{length_at, AreArraysRead}
+use Rattle.loop_rules.specs.Further.Known.{Known}
+use Rattle.loop_rules.specs.Further.Fields.{IsReferenceType}
+use Rattle.loop_rules.specs.Further.Arrays.{length_at, AreArraysRead}
 use Rattle.array_fields.specs.declared.rows.Field.{Field}
 use Rattle.array_fields.specs.declared.rows.Field.TheVariants.{Static, Instance}
 use Rattle.array_fields.specs.declared.puts.Put.{Put}

@@ -6,7 +6,7 @@ use Rattle.lists.specs.Lists.{onto}
 use Rattle.bytecode_model.specs.Program.{Program}
 use Rattle.bytecode_model.specs.Rows.{Row}
 use Rattle.code_lines.specs.Lines.{IsLine}
-use Rattle.further_rules.specs.Found.{Table, known_at}
+use Rattle.loop_rules.specs.Further.Found.{Table, known_at}
 use Rattle.array_fields.specs.declared.rows.Field.{Field}
 use Rattle.array_fields.specs.declared.rows.Field.TheVariants.{Static, Instance}
 use Rattle.array_fields.specs.declared.puts.Put.{Put}

@@ -1,10 +1,10 @@
 //! Which fields of a program hold null or arrays of one length.
 
 ghost use Rattle.std.specs.Prelude.{◌≡◌, ℕ, ℤ, Option, IfOk};
-ghost use Rattle.further_rules.specs.Arrays.{AreTables, IsKnownBy};
-ghost use Rattle.further_rules.specs.Found.{only_constants};
+ghost use Rattle.loop_rules.specs.Further.Arrays.{AreTables, IsKnownBy};
+ghost use Rattle.loop_rules.specs.Further.Found.{only_constants};
 ghost use Rattle.program_tables.specs.Resolved.{resolved};
-ghost use Rattle.further_rules.specs.Arrays.{length_at};
+ghost use Rattle.loop_rules.specs.Further.Arrays.{length_at};
 ghost use Rattle.array_fields.specs.Lengths.{array_of, known_by, natural_length};
 ghost use Rattle.array_fields.specs.declared.rows.Field.TheVariants.{Static, Instance};
 
@@ -12,7 +12,7 @@ use crate::lengths::{class_lengths, static_lengths};
 use crate::puts::puts_of;
 use crate::rows::Field;
 use base::{Items, NoMemory};
-use further_rules::KnownTable;
+use loop_rules::further::KnownTable;
 use resolved_program::Program;
 use std::alloc::Global;
 use std::marker::Model;

@@ -2,7 +2,7 @@
 
 ghost use Rattle.std.specs.Prelude.{◌≡◌, ℕ, ◌<◌, length, Contains, IfOk, OnOk};
 ghost use Rattle.std.specs.Option.{IsSomeAnd, option_map};
-ghost use Rattle.further_rules.specs.Found.{known_at};
+ghost use Rattle.loop_rules.specs.Further.Found.{known_at};
 ghost use Rattle.bytecode_model.specs.Program.{body_of};
 ghost use Rattle.opcodes.specs.Start.{starts_of};
 ghost use Rattle.program_tables.specs.Numbers.{methods_by_number};
@@ -11,7 +11,7 @@ ghost use Rattle.array_fields.specs.Puts.{ArePuts, HasPutsAt, length_put, with_p
 
 use crate::rows::{Field, put_at};
 use base::NoMemory;
-use further_rules::{KnownTable, known_at};
+use loop_rules::further::{KnownTable, known_at};
 use opcodes::laws::starts_follow_one_another;
 use opcodes::starts;
 use program_tables::laws::methods_stand_by_number;

@@ -3,7 +3,7 @@
 ghost use Rattle.std.specs.Prelude.{◌≡◌, ℕ, ℤ, ◌<◌, Option, length, Contains, IfOk};
 ghost use Rattle.std.specs.Option.{IsSomeAnd};
 ghost use Rattle.bytecode_model.specs.Program.{body_of};
-ghost use Rattle.further_rules.specs.Arrays.{AreArraysRead, AreMethodArrays};
+ghost use Rattle.loop_rules.specs.Further.Arrays.{AreArraysRead, AreMethodArrays};
 ghost use Rattle.lists.specs.Lists.{onto};
 ghost use Rattle.program_tables.specs.Numbers.{methods_by_number};
 ghost use Rattle.program_tables.specs.Resolved.{resolved};

@@ -2,7 +2,7 @@
 ghost use Rattle.std.specs.Prelude.{◌≡◌, ◌<◌, length, All, IfOk, IfErr, OnOk};
 ghost use Rattle.std.specs.List.Sorted.{IsStrictlyIncreasing, IsPermutation};
 ghost use Rattle.bytecode_model.specs.Program.{Program};
-ghost use Rattle.cache_regions.specs.Region.{AreDistinct};
+ghost use Rattle.method_cache.specs.Regions.Region.{AreDistinct};
 ghost use Rattle.method_flow.specs.Flow.{IsFlowOf};
 ghost use Rattle.method_flow.specs.declared.timing.Timing.{Timing};
 ghost use Rattle.node_costs.specs.Costs.{bounds_of};
@@ -17,9 +17,9 @@ use super::asking::asked;
 use super::lines::check_loops;
 use base::Items;
 use bound_rules::BoundRefusal;
+use bound_texts::loops::Bounds;
 use call_regions::laws::order_excludes_cycles;
 use call_regions::{CallFault, Order, order};
-use loop_bounds::Bounds;
 use method_flow::FlowProgram;
 use std::alloc::{AllocError, Global};
 

@@ -11,7 +11,7 @@ ghost use Rattle.bound_causes.specs.Causes.{IsLoopCause, IsUnboundedIn, IsIrredu
 use super::shapes::{Shape, shape_of};
 use base::NoMemory;
 use bound_rules::BoundRefusal;
-use loop_bounds::Bounds;
+use bound_texts::loops::Bounds;
 use method_flow::FlowProgram;
 use node_costs::bound_at;
 use std::alloc::Global;

@@ -9,7 +9,7 @@ use Rattle.std.proofs.lemmas.Option.{slice_get_within}
 use Rattle.lists.proofs.Lemmas.{onto_some}
 use Rattle.lists.specs.Members.{at_head, in_tail, cons_cases, nil_contains, has_or_not}
 use Rattle.loop_nest.proofs.Elements.{range_contains}
-use Rattle.cache_regions.specs.Region.{AreDistinct}
+use Rattle.method_cache.specs.Regions.Region.{AreDistinct}
 use Rattle.bytecode_model.specs.Program.{Program, Method, Body, body_of}
 use Rattle.method_flow.specs.Recursion.{MayCall, IsCallChain, IsRecursion}
 use Rattle.method_flow.specs.Regions.{IsWithin}

@@ -6,7 +6,7 @@ use Rattle.bytecode_typing.specs.Lawful.{Lawful}
 use Rattle.method_flow.specs.Keeping.{BoundOf}
 use Rattle.method_flow.specs.Regions.{IsWithin}
 use Rattle.method_flow.specs.declared.timing.Timing.{Timing}
-use Rattle.method_graphs.specs.Laws.{LiveGraphsExist, TypedMethodsReachStarts}
+use Rattle.method_runs.specs.TypedGraphs.Laws.{LiveGraphsExist, TypedMethodsReachStarts}
 use Rattle.std.proofs.lemmas.Bool.{false≢true}
 use Rattle.lists.proofs.Lemmas.{some_in}
 use Rattle.opcodes.specs.Start.{IsStart}

@@ -17,3 +17,4 @@ pub mod Existing
 pub mod Rising
 pub mod CompactOnes
 pub mod Causes
+pub mod SoundnessLemmas

@@ -11,7 +11,7 @@ use Rattle.loop_nest.specs.Walks.Walk.{stay, along}
 use Rattle.loop_nest.specs.Nest.{NaturalLoop, headers_of, header_at, members_at, outers_of, IsLoopOf, IsAround, IsOutermost, IsNextOuter, IsNest}
 use Rattle.loop_nest.specs.Laws.{LoopsAreNested}
 use Rattle.loop_nest.proofs.Ends.{ends_within, walk_on}
-use Rattle.method_graphs.proofs.Choosing.{IsKept, kept, to_increasing, numbers_below, numbers_are, numbers_rise}
+use Rattle.method_runs.proofs.TypedGraphsLemmas.Choosing.{IsKept, kept, to_increasing, numbers_below, numbers_are, numbers_rise}
 use Rattle.bound_laws.specs.Walking.{LeadsFromReached, NestsExist}
 use Rattle.bound_laws.proofs.Choosing.{AreChosen, chosen}
 

@@ -17,7 +17,7 @@ use Rattle.bytecode_typing.specs.Typed.{Typing, Typed}
 use Rattle.method_flow.specs.declared.timing.Timing.{Timing}
 use Rattle.method_flow.specs.Costs.{params, IsOwnCost}
 use Rattle.method_flow.specs.Nodes.{Node, At, RaiseAt, IsEdge, IsReached}
-use Rattle.method_graphs.specs.Laws.{TypedMethodsReachRows}
+use Rattle.method_runs.specs.TypedGraphs.Laws.{TypedMethodsReachRows}
 use Rattle.bound_laws.specs.Existing.{HaveShortCodes, OwnCostsExist}
 
 -- ---- the cases of a switch

@@ -1,3 +1,4 @@
 pub mod Walking
 pub mod Existing
 pub mod Causes
+pub mod Soundness

@@ -45,7 +45,7 @@ pub fn own_costs_exist()
     ensures { OwnCostsExist }
 {
     micro_flow::laws::costs_are_small();
-    method_graphs::laws::typed_methods_reach_rows();
+    method_runs::typed_graphs::laws::typed_methods_reach_rows();
 }
 
 /// Where nothing but its size forbids a bound of a method, it has a family of numbers.
@@ -61,8 +61,8 @@ pub fn numbers_exist()
     compact_walks::laws::graphs_are_moved();
     bound_rules::laws::headers_are_instructions();
     bound_rules::laws::methods_have_code();
-    method_graphs::laws::live_graphs_exist();
-    method_graphs::laws::typed_methods_reach_starts();
+    method_runs::typed_graphs::laws::live_graphs_exist();
+    method_runs::typed_graphs::laws::typed_methods_reach_starts();
 }
 
 /// One cause at most forbids a bound, and none where something is printed.

@@ -12,7 +12,7 @@ use Rattle.lists.specs.Members.{rising_apart}
 use Rattle.loop_nest.proofs.Elements.{from_map}
 use Rattle.loop_nest.specs.Digraph.{Digraph}
 use Rattle.section_check.specs.Bounded.{BoundedLoop, entries, cost_of_nodes, cost_of_entries}
-use Rattle.cache_regions.specs.Region.{AreDistinct}
+use Rattle.method_cache.specs.Regions.Region.{AreDistinct}
 use Rattle.bytecode_model.specs.Program.{Program}
 use Rattle.method_flow.specs.Nodes.{Node}
 use Rattle.method_flow.specs.Keeping.{BoundOf}
@@ -28,7 +28,7 @@ use Rattle.bound_rules.specs.Numbers.IsFull.{fits as full_fits, exceeds as full_
 use Rattle.bound_rules.proofs.Sums.{same_loads}
 use Rattle.bound_report.specs.declared.counts.NodeCount.{NodeCount}
 use Rattle.bound_report.specs.declared.counts.MethodCounts.{MethodCounts}
-use Rattle.report_rows.specs.declared.rows.ReportRow.{ReportRow}
+use Rattle.bound_report.specs.declared.contents.rows.ReportRow.{ReportRow}
 use Rattle.bound_report.specs.Counts.{Asks, IsMore, IsAdded, IsNodeCount, AreCountsOf, nodes_of}
 use Rattle.bound_report.specs.Counts.Asks.{inside, loops}
 use Rattle.bound_report.specs.Counts.IsMore.{fits, exceeds}

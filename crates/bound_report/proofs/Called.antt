@@ -22,11 +22,11 @@ use Rattle.bound_rules.specs.Fitting.{loads_of}
 use Rattle.bound_rules.specs.Numbers.{full_and_back}
 use Rattle.bound_rules.proofs.Greatest.{same_members, none_greatest}
 use Rattle.compact_walks.specs.Limited.{cycles_limit, limited}
-use Rattle.wcet.specs.declared.known.Known.{Known}
-use Rattle.wcet.specs.Known.{known_at, CalleesAreKnown, IsFullBy, IsToldOf}
-use Rattle.wcet.specs.Known.IsFullBy.{fits as full_fits, exceeds as full_exceeds}
-use Rattle.wcet.specs.Laws.{numbers_by}
-use Rattle.wcet.proofs.Limiting.{small_is}
+use Rattle.bound_finder.specs.declared.known.Known.{Known}
+use Rattle.bound_finder.specs.Known.{known_at, CalleesAreKnown, IsFullBy, IsToldOf}
+use Rattle.bound_finder.specs.Known.IsFullBy.{fits as full_fits, exceeds as full_exceeds}
+use Rattle.bound_finder.specs.Laws.{numbers_by}
+use Rattle.bound_finder.proofs.Limiting.{small_is}
 use Rattle.bound_report.specs.declared.callees.Callee.{Callee}
 use Rattle.bound_report.specs.Counts.{IsMore, IsAdded}
 use Rattle.bound_report.specs.Counts.IsMore.{fits, exceeds}

@@ -8,18 +8,18 @@ use Rattle.std.proofs.lemmas.List.Kept.{AllPairs-filter}
 use Rattle.std.proofs.lemmas.Option.{slice_get-get_or}
 use Rattle.lists.specs.Members.{heads, tails, place_of, contains_at}
 use Rattle.loop_nest.proofs.Elements.{kept_at, dropped_at, filter_contains, from_filter}
-use Rattle.cache_regions.specs.Region.{AreDistinct}
+use Rattle.method_cache.specs.Regions.Region.{AreDistinct}
 use Rattle.bytecode_model.specs.Program.{Program}
 use Rattle.method_flow.specs.Keeping.{BoundOf}
 use Rattle.method_flow.specs.Recursion.{MayCall}
 use Rattle.method_flow.specs.Regions.IsWithin.{itself}
 use Rattle.method_flow.specs.declared.timing.Timing.{Timing}
-use Rattle.wcet.specs.declared.known.Known.{Known}
-use Rattle.wcet.specs.Known.{AreNumbersOf}
-use Rattle.wcet.specs.Laws.{numbers_by}
-use Rattle.wcet.specs.Ready.{AreBehindCalls}
-use Rattle.wcet.proofs.KnownWithin.{called_among}
-use Rattle.wcet.proofs.Ordering.{are_ready}
+use Rattle.bound_finder.specs.declared.known.Known.{Known}
+use Rattle.bound_finder.specs.Known.{AreNumbersOf}
+use Rattle.bound_finder.specs.Laws.{numbers_by}
+use Rattle.bound_finder.specs.Ready.{AreBehindCalls}
+use Rattle.bound_finder.proofs.KnownWithin.{called_among}
+use Rattle.bound_finder.proofs.Ordering.{are_ready}
 use Rattle.bound_report.specs.Settled.{asked_in, IsSettledAt, IsSettled}
 use Rattle.bound_report.specs.Adding.{has_number, callers_of, AreSettled}
 

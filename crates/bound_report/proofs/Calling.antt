@@ -10,7 +10,7 @@ use Rattle.lists.proofs.Lemmas.{some_same}
 use Rattle.lists.specs.Members.{rising_apart}
 use Rattle.method_flow.specs.declared.flow.Call.{Call}
 use Rattle.method_flow.specs.Flow.{Flow, places_of, targets_of_call}
-use Rattle.wcet.specs.declared.known.Known.{Known}
+use Rattle.bound_finder.specs.declared.known.Known.{Known}
 use Rattle.bound_report.specs.declared.callees.Callee.{Callee}
 use Rattle.bound_report.specs.Callees.{IsCallee, no_callee, callee_at, AreCallees}
 

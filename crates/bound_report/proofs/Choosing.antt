@@ -5,9 +5,9 @@ use Rattle.std.proofs.lemmas.Bool.{cases_lt, cond_below, cond_above}
 use Rattle.std.proofs.lemmas.List.{take_more, take_all}
 use Rattle.std.proofs.lemmas.List.Elements.{Contains-append_left, Contains-push}
 use Rattle.bound_rules.specs.Costs.{greater, greatest_of}
-use Rattle.wcet.specs.declared.known.Known.{Known}
-use Rattle.wcet.specs.Known.{known_at}
-use Rattle.wcet.proofs.Greater.{greatest_push}
+use Rattle.bound_finder.specs.declared.known.Known.{Known}
+use Rattle.bound_finder.specs.Known.{known_at}
+use Rattle.bound_finder.proofs.Greater.{greatest_push}
 use Rattle.bound_report.specs.Callees.{number_by, better, IsGreatestTarget}
 
 -- the best one of these methods, with its number

@@ -1,10 +1,10 @@
 -- What holds of all methods of an order that are found, where none of their numbers is too large.
 use Rattle.std.proofs.Common.{◌≡◌, ◌<◌, ℕ, List, length, None}
-use Rattle.wcet.specs.declared.methods.Methods.{Methods}
-use Rattle.wcet.specs.Known.{BoundSetting, bounds_in, ForEach}
-use Rattle.wcet.specs.Ending.{AreReadyFound, AreKnownWithin}
-use Rattle.wcet.proofs.Certifying.{root_known}
-use Rattle.wcet.proofs.Ended.{all_small}
+use Rattle.bound_finder.specs.declared.methods.Methods.{Methods}
+use Rattle.bound_finder.specs.Known.{BoundSetting, bounds_in, ForEach}
+use Rattle.bound_finder.specs.Ending.{AreReadyFound, AreKnownWithin}
+use Rattle.bound_finder.proofs.Certifying.{root_known}
+use Rattle.bound_finder.proofs.Ended.{all_small}
 use Rattle.bound_report.specs.Settled.{IsSettled, AreReadyIn}
 
 module _ (set : BoundSetting) (root : ℕ) (order : List ℕ) (a : Methods) (below : root < length set.flow.methods) (h : AreReadyIn set root order a) where

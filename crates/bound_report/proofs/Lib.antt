@@ -19,3 +19,4 @@ mod Walking
 mod Listing
 mod Unready
 mod Ending
+pub mod VisitsLemmas

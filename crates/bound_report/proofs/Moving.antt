@@ -17,7 +17,7 @@ use Rattle.compact_walks.proofs.Renumbering.{AreBelow, rest_below, same_test, sa
 use Rattle.compact_walks.proofs.Walks.{from_entry}
 use Rattle.compact_walks.proofs.Loops.{loop_header_below, loop_members_below}
 use Rattle.compact_walks.proofs.Kept.{IsBelow, all_of, kept_out, same_cost}
-use Rattle.walk_counts.specs.Counts.{AreCounts}
+use Rattle.bound_report.specs.Visits.Counts.{AreCounts}
 
 bounded_moved : (node : ℕ → ℕ) (ls : List NaturalLoop) (bounds fees : List ℕ) → bounded_loops (moved_nest node ls) bounds fees ≡ map (moved_bounded node) (bounded_loops ls bounds fees)
 bounded_moved node [] bounds fees = refl

@@ -17,8 +17,8 @@ use Rattle.method_flow.specs.Graphs.{IsLiveGraph}
 use Rattle.method_flow.specs.Keeping.{BoundOf}
 use Rattle.method_flow.specs.declared.timing.Timing.{Timing}
 use Rattle.bound_rules.specs.Numbers.{Numbers}
-use Rattle.report_rows.specs.declared.rows.ReportRow.{ReportRow}
-use Rattle.report_rows.specs.Rows.{IsCodePlace}
+use Rattle.bound_report.specs.declared.contents.rows.ReportRow.{ReportRow}
+use Rattle.bound_report.specs.Contents.Rows.{IsCodePlace}
 use Rattle.bound_report.specs.declared.counts.NodeCount.{NodeCount}
 use Rattle.bound_report.specs.declared.counts.MethodCounts.{MethodCounts}
 use Rattle.bound_report.specs.Counts.{Asks, AreCountsOf, IsNodeCount}

@@ -29,19 +29,19 @@ use Rattle.bound_rules.specs.Numbers.{Numbers, charged_loops, no_fees, is_in_cha
 use Rattle.bound_rules.proofs.Owning.{same_own}
 use Rattle.compact_walks.specs.Limited.{cycles_limit}
 use Rattle.compact_walks.specs.Moving.{moved_natural}
-use Rattle.walk_counts.specs.declared.WalkCounts.{WalkCounts}
-use Rattle.wcet.specs.declared.known.Known.{Known}
-use Rattle.wcet.specs.declared.prepared.Prepared.{Prepared}
-use Rattle.wcet.specs.Known.{BoundSetting, bounds_in}
-use Rattle.wcet.specs.Laws.{numbers_by}
-use Rattle.wcet.specs.Prepared.{node_of, nest_of, is_without_at}
-use Rattle.wcet.specs.Found.{costs_of}
-use Rattle.wcet.proofs.Alike.{same_members, same_charged}
-use Rattle.wcet.proofs.Measuring.{OwnAreSmall, loops_in, live_nest, is_moved, moved_costs, in_nodes, from_nodes, on_walk}
-use Rattle.wcet.proofs.OneValue.{AreFoundLaws, IsOne, one_inside, one_loops_number, loop_charges}
-use Rattle.wcet.proofs.SmallCosts.{own_small}
-use Rattle.wcet.proofs.Told.{load_is}
-use Rattle.wcet.proofs.Valuing.{agree, greatest_out}
+use Rattle.bound_report.specs.declared.visits.WalkCounts.{WalkCounts}
+use Rattle.bound_finder.specs.declared.known.Known.{Known}
+use Rattle.bound_finder.specs.declared.prepared.Prepared.{Prepared}
+use Rattle.bound_finder.specs.Known.{BoundSetting, bounds_in}
+use Rattle.bound_finder.specs.Laws.{numbers_by}
+use Rattle.bound_finder.specs.Prepared.{node_of, nest_of, is_without_at}
+use Rattle.bound_finder.specs.Found.{costs_of}
+use Rattle.bound_finder.proofs.Alike.{same_members, same_charged}
+use Rattle.bound_finder.proofs.Measuring.{OwnAreSmall, loops_in, live_nest, is_moved, moved_costs, in_nodes, from_nodes, on_walk}
+use Rattle.bound_finder.proofs.OneValue.{AreFoundLaws, IsOne, one_inside, one_loops_number, loop_charges}
+use Rattle.bound_finder.proofs.SmallCosts.{own_small}
+use Rattle.bound_finder.proofs.Told.{load_is}
+use Rattle.bound_finder.proofs.Valuing.{agree, greatest_out}
 use Rattle.bound_report.specs.declared.callees.Callee.{Callee}
 use Rattle.bound_report.specs.declared.counts.NodeCount.{NodeCount}
 use Rattle.bound_report.specs.declared.counts.MethodCounts.{MethodCounts}

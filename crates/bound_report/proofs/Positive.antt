@@ -2,12 +2,12 @@
 use Rattle.std.proofs.Common.{◌≡◌, ℕ, ◌≤◌, ◌<◌, Bool, true, false, cond, List, [], ◌∷◌, Option, Some, None, refl, arith}
 use Rattle.std.specs.Prelude.{nat_lt, slice_index}
 use Rattle.lists.specs.Tests.{and_right}
-use Rattle.micro_isa.specs.declared.Body.{Body}
-use Rattle.micro_isa.specs.declared.Body.TheVariants.{Plain, Stm, Ldm, Ldi, Bz, Bnz, Jmp}
-use Rattle.micro_isa.specs.declared.Micro.{Micro}
-use Rattle.micro_isa.specs.Operations.{operation_of}
-use Rattle.micro_isa.specs.Words.{micro_of}
-use Rattle.microcode_rom.specs.declared.TheConstants.{WORDS}
+use Rattle.microcode.specs.declared.isa.Body.{Body}
+use Rattle.microcode.specs.declared.isa.Body.TheVariants.{Plain, Stm, Ldm, Ldi, Bz, Bnz, Jmp}
+use Rattle.microcode.specs.declared.isa.Micro.{Micro}
+use Rattle.microcode.specs.Isa.Operations.{operation_of}
+use Rattle.microcode.specs.Isa.Words.{micro_of}
+use Rattle.microcode.specs.declared.TheConstants.{WORDS}
 use Rattle.micro_flow.specs.declared.CostParams.{CostParams}
 use Rattle.micro_flow.specs.Walk.{TimeKind, Waits, Reads, Writes, Halts, Other, kind_of, Walker, passed, onward, turned, branched, timed, stops, step, going, walk, begin, IsGreatestTime}
 

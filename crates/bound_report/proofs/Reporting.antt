@@ -4,7 +4,7 @@ use Rattle.std.specs.Prelude.{is_some, IsSome}
 use Rattle.std.proofs.Math.Nat.{le-mul_of_pos_right, mul-le-mul_left}
 use Rattle.std.proofs.lemmas.List.Elements.{All-contains}
 use Rattle.lists.proofs.Lemmas.{map_some}
-use Rattle.cache_regions.specs.Region.{AreDistinct}
+use Rattle.method_cache.specs.Regions.Region.{AreDistinct}
 use Rattle.bytecode_model.specs.Program.{Program}
 use Rattle.method_flow.specs.Keeping.{BoundOf}
 use Rattle.method_flow.specs.Costs.{params, IsPrintedOf}
@@ -12,9 +12,9 @@ use Rattle.method_flow.specs.Regions.{IsGreatestLoad}
 use Rattle.method_flow.specs.Regions.IsWithin.{itself}
 use Rattle.method_flow.specs.declared.timing.Timing.{Timing}
 use Rattle.micro_flow.specs.Costs.{IsGreatestInvoke}
-use Rattle.wcet.specs.declared.known.Known.{Known}
-use Rattle.wcet.specs.Known.{known_at, IsLimited}
-use Rattle.wcet.specs.Laws.{numbers_by}
+use Rattle.bound_finder.specs.declared.known.Known.{Known}
+use Rattle.bound_finder.specs.Known.{known_at, IsLimited}
+use Rattle.bound_finder.specs.Laws.{numbers_by}
 use Rattle.bound_report.specs.declared.counts.NodeCount.{NodeCount}
 use Rattle.bound_report.specs.declared.counts.MethodCounts.{MethodCounts}
 use Rattle.bound_report.specs.declared.reports.Report.{Report}

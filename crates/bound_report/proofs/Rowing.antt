@@ -8,7 +8,7 @@ use Rattle.std.proofs.lemmas.List.{append_assoc, append-nil, take_more, map_push
 use Rattle.std.proofs.lemmas.List.Elements.{filter-append}
 use Rattle.bound_report.specs.declared.counts.NodeCount.{NodeCount}
 use Rattle.bound_report.specs.declared.counts.MethodCounts.{MethodCounts}
-use Rattle.report_rows.specs.declared.rows.ReportRow.{ReportRow}
+use Rattle.bound_report.specs.declared.contents.rows.ReportRow.{ReportRow}
 use Rattle.bound_report.specs.Report.{row_of, rows_of, products}
 use Rattle.bound_report.specs.Rows.{AddsRows}
 

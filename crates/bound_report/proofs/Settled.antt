@@ -10,19 +10,19 @@ use Rattle.method_flow.specs.Regions.{load}
 use Rattle.method_flow.specs.declared.timing.Timing.{Timing}
 use Rattle.bound_rules.specs.Fitting.{RegionFits, loads_of}
 use Rattle.compact_walks.specs.Limited.{cycles_limit}
-use Rattle.wcet.specs.declared.fit.Fit.{Fit}
-use Rattle.wcet.specs.declared.known.Known.{Known}
-use Rattle.wcet.specs.declared.found.Walked.{Walked}
-use Rattle.wcet.specs.declared.found.Walked.TheVariants.{Never, Large}
+use Rattle.bound_finder.specs.declared.fit.Fit.{Fit}
+use Rattle.bound_finder.specs.declared.known.Known.{Known}
+use Rattle.bound_finder.specs.declared.found.Walked.{Walked}
+use Rattle.bound_finder.specs.declared.found.Walked.TheVariants.{Never, Large}
 use Rattle.method_flow.specs.Flow.{Coded}
-use Rattle.wcet.specs.declared.prepared.Prepared.{Prepared}
-use Rattle.wcet.specs.Known.{BoundSetting, unknown, known_at, bounds_in, IsLimited, IsKnownOf, Agrees, HasNumbers}
-use Rattle.wcet.specs.Laws.{numbers_by}
-use Rattle.wcet.specs.Found.{IsFitOf, IsWalked, found_by}
-use Rattle.wcet.specs.Found.IsFitOf.{fits, exceeds}
-use Rattle.wcet.specs.WalkedMethods.{WalkedMethod}
-use Rattle.wcet.specs.FoundLaws.{KnownIs}
-use Rattle.wcet.proofs.FoundNumbers.{has_agrees}
+use Rattle.bound_finder.specs.declared.prepared.Prepared.{Prepared}
+use Rattle.bound_finder.specs.Known.{BoundSetting, unknown, known_at, bounds_in, IsLimited, IsKnownOf, Agrees, HasNumbers}
+use Rattle.bound_finder.specs.Laws.{numbers_by}
+use Rattle.bound_finder.specs.Found.{IsFitOf, IsWalked, found_by}
+use Rattle.bound_finder.specs.Found.IsFitOf.{fits, exceeds}
+use Rattle.bound_finder.specs.WalkedMethods.{WalkedMethod}
+use Rattle.bound_finder.specs.FoundLaws.{KnownIs}
+use Rattle.bound_finder.proofs.FoundNumbers.{has_agrees}
 use Rattle.bound_report.specs.Settled.{asked_in}
 use Rattle.bound_report.specs.Laws.{SettledAreWalked}
 

@@ -8,7 +8,7 @@ use Rattle.section_check.specs.Bounded.{BoundedLoop, IsGreatest}
 use Rattle.loop_nest.specs.Digraph.{Digraph}
 use Rattle.bytecode_model.specs.Program.{Program, body_of, instr_at}
 use Rattle.micro_flow.specs.Walk.{IsCost, IsRaiseCost}
-use Rattle.microcode_rom.specs.declared.TheConstants.{ENTRIES, RAISE}
+use Rattle.microcode.specs.declared.TheConstants.{ENTRIES, RAISE}
 use Rattle.opcodes.specs.Bytes.{u1}
 use Rattle.method_flow.specs.Keeping.{BoundOf}
 use Rattle.method_flow.specs.Costs.{params, IsOwnCost}
@@ -23,10 +23,10 @@ use Rattle.bound_rules.specs.Fitting.{loads_of}
 use Rattle.bound_rules.specs.Numbers.{IsGreatestValue, IsFull}
 use Rattle.bound_rules.specs.Numbers.IsFull.{fits as full_fits, exceeds as full_exceeds}
 use Rattle.compact_walks.proofs.Walks.{start_visited}
-use Rattle.wcet.specs.declared.known.Known.{Known}
-use Rattle.wcet.specs.Known.{known_at, IsLimited, Agrees}
-use Rattle.wcet.specs.Known.ExceedsBeside.{full as exceeds_full}
-use Rattle.wcet.specs.Laws.{numbers_by}
+use Rattle.bound_finder.specs.declared.known.Known.{Known}
+use Rattle.bound_finder.specs.Known.{known_at, IsLimited, Agrees}
+use Rattle.bound_finder.specs.Known.ExceedsBeside.{full as exceeds_full}
+use Rattle.bound_finder.specs.Laws.{numbers_by}
 use Rattle.bound_report.specs.Counts.{IsMore}
 use Rattle.bound_report.specs.Counts.IsMore.{fits, exceeds}
 use Rattle.bound_report.specs.Callees.{more_of}

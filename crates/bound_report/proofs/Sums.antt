@@ -6,7 +6,7 @@ use Rattle.std.proofs.lemmas.Bool.{cases_Bool, cases_eq, eq-eqb, ne_eqb, cond-tr
 use Rattle.std.proofs.lemmas.List.Sums.{sum_by-cons, sum_by-append}
 use Rattle.std.proofs.lemmas.List.Elements.{All-contains, All-tail}
 use Rattle.lists.specs.Members.{at_head, in_tail, cons_cases, nil_contains}
-use Rattle.cache_regions.specs.Region.{AreDistinct}
+use Rattle.method_cache.specs.Regions.Region.{AreDistinct}
 use Rattle.bound_rules.proofs.Sums.{distinct_tail, first_apart}
 
 pub same_sum : {X : Type 0} (f g : X → ℕ) (xs : List X) → ((x : X) → Contains xs x → f x ≡ g x) → sum_by f xs ≡ sum_by g xs

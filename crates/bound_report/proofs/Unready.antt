@@ -8,11 +8,11 @@ use Rattle.method_flow.specs.Keeping.{BoundOf}
 use Rattle.method_flow.specs.declared.timing.Timing.{Timing}
 use Rattle.bound_rules.specs.declared.faults.BoundRefusal.{BoundRefusal}
 use Rattle.bound_rules.specs.declared.faults.BoundRefusal.TheVariants.{NoMemory}
-use Rattle.wcet.specs.declared.known.Known.{Known}
-use Rattle.wcet.specs.declared.shape.Shape.{Shape}
-use Rattle.wcet.specs.Laws.{ReadyHasShape}
-use Rattle.wcet.specs.Prepared.{IsLeftBy, IsShapeOf, IsUnbounded, IsNotPrepared}
-use Rattle.wcet.specs.Ready.{IsWantOfMemory}
+use Rattle.bound_finder.specs.declared.known.Known.{Known}
+use Rattle.bound_finder.specs.declared.shape.Shape.{Shape}
+use Rattle.bound_finder.specs.Laws.{ReadyHasShape}
+use Rattle.bound_finder.specs.Prepared.{IsLeftBy, IsShapeOf, IsUnbounded, IsNotPrepared}
+use Rattle.bound_finder.specs.Ready.{IsWantOfMemory}
 use Rattle.bound_report.specs.Settled.{IsSettledAt}
 
 module _ (law : ReadyHasShape) (P : Program) (t : Timing) (bound_of : BoundOf) (table : List Known) (m : ℕ) (h : IsSettledAt P t bound_of table m) (fault : BoundRefusal) where

@@ -9,11 +9,11 @@ use Rattle.path_solver.specs.Reaching.{ReachesExit}
 use Rattle.path_solver.specs.Regions.{charged}
 use Rattle.bound_rules.specs.declared.faults.BoundRefusal.{BoundRefusal}
 use Rattle.compact_walks.specs.Limited.{cycles_limit, picked, ArePicked, SomeExceeds}
-use Rattle.walk_counts.specs.declared.WalkCounts.{WalkCounts}
-use Rattle.walk_counts.specs.Counts.{AreCounts}
-use Rattle.wcet.specs.declared.prepared.Prepared.{Prepared}
-use Rattle.wcet.specs.Prepared.{IsInShape}
-use Rattle.wcet.specs.Found.IsLargeBy.{node, walk}
+use Rattle.bound_report.specs.declared.visits.WalkCounts.{WalkCounts}
+use Rattle.bound_report.specs.Visits.Counts.{AreCounts}
+use Rattle.bound_finder.specs.declared.prepared.Prepared.{Prepared}
+use Rattle.bound_finder.specs.Prepared.{IsInShape}
+use Rattle.bound_finder.specs.Found.IsLargeBy.{node, walk}
 use Rattle.bound_report.specs.Walks.{AreWalkCounts, IsNotWalked}
 use Rattle.bound_report.proofs.OfWalks.{charged_long}
 

@@ -2,14 +2,14 @@
 use Rattle.std.specs.Prelude.{◌≡◌, ℕ, ◌+◌, ◌*◌, ◌^◌, ◌<◌, ◌==◌, if◌then◌else◌, Bool, true, List, [], ◌∷◌, ◌++◌, length, reverse, filter, All}
 use Rattle.std.specs.Prelude.{Contains, Option, Some, None, is_some}
 use Rattle.std.specs.Prelude.{slice_index}
-use Rattle.cache_regions.specs.Region.{AreDistinct}
+use Rattle.method_cache.specs.Regions.Region.{AreDistinct}
 use Rattle.bytecode_model.specs.Program.{Program}
 use Rattle.method_flow.specs.Keeping.{BoundOf}
 use Rattle.method_flow.specs.Recursion.{MayCall}
 use Rattle.method_flow.specs.declared.timing.Timing.{Timing}
-use Rattle.wcet.specs.declared.known.Known.{Known}
-use Rattle.wcet.specs.Known.{BoundSetting, known_at}
-use Rattle.wcet.specs.Laws.{numbers_by}
+use Rattle.bound_finder.specs.declared.known.Known.{Known}
+use Rattle.bound_finder.specs.Known.{BoundSetting, known_at}
+use Rattle.bound_finder.specs.Laws.{numbers_by}
 use Rattle.bound_report.specs.declared.counts.NodeCount.{NodeCount}
 use Rattle.bound_report.specs.declared.counts.MethodCounts.{MethodCounts}
 use Rattle.bound_report.specs.Counts.{AreCountsOf}

@@ -5,8 +5,8 @@ use Rattle.method_flow.specs.declared.flow.Call.{Call}
 use Rattle.method_flow.specs.Flow.{Coded, Flow, targets_of_call}
 use Rattle.node_costs.specs.Costs.{method_load}
 use Rattle.bound_rules.specs.Costs.{greatest_of}
-use Rattle.wcet.specs.declared.known.Known.{Known}
-use Rattle.wcet.specs.Known.{BoundSetting, known_at}
+use Rattle.bound_finder.specs.declared.known.Known.{Known}
+use Rattle.bound_finder.specs.Known.{BoundSetting, known_at}
 use Rattle.bound_report.specs.declared.callees.Callee.{Callee}
 
 -- the number of a method where its call pays loads, or pays none

@@ -3,14 +3,14 @@ use Rattle.std.specs.Prelude.{◌≡◌, ◌⊎◌, ℕ, List, All, Some, slice_
 use Rattle.path_solver.specs.Regions.{charged}
 use Rattle.bytecode_model.specs.Program.{Program}
 use Rattle.method_flow.specs.Flow.{Coded, IsCoded, IsFlowOf}
-use Rattle.walk_counts.specs.declared.WalkCounts.{WalkCounts}
-use Rattle.wcet.specs.declared.known.Known.{Known}
-use Rattle.wcet.specs.declared.prepared.Prepared.{Prepared}
-use Rattle.wcet.specs.declared.found.Walked.TheVariants.{Never, Large}
-use Rattle.wcet.specs.Known.{BoundSetting, IsBoundSetting, bounds_in, IsLimited}
-use Rattle.wcet.specs.Laws.{numbers_by}
-use Rattle.wcet.specs.Prepared.{IsInShape, IsPreparedFor}
-use Rattle.wcet.specs.Found.{IsWalked}
+use Rattle.bound_report.specs.declared.visits.WalkCounts.{WalkCounts}
+use Rattle.bound_finder.specs.declared.known.Known.{Known}
+use Rattle.bound_finder.specs.declared.prepared.Prepared.{Prepared}
+use Rattle.bound_finder.specs.declared.found.Walked.TheVariants.{Never, Large}
+use Rattle.bound_finder.specs.Known.{BoundSetting, IsBoundSetting, bounds_in, IsLimited}
+use Rattle.bound_finder.specs.Laws.{numbers_by}
+use Rattle.bound_finder.specs.Prepared.{IsInShape, IsPreparedFor}
+use Rattle.bound_finder.specs.Found.{IsWalked}
 use Rattle.compact_walks.specs.Limited.{cycles_limit}
 use Rattle.bound_report.specs.declared.counts.MethodCounts.{MethodCounts}
 use Rattle.bound_report.specs.Counts.{AreCountsOf}

@@ -8,3 +8,5 @@ pub mod Nodes
 pub mod Settled
 pub mod Adding
 pub mod Laws
+pub mod Contents
+pub mod Visits

@@ -3,10 +3,10 @@ use Rattle.std.specs.Prelude.{◌≡◌, ℕ, Bool, List, [], ◌∷◌, Some, s
 use Rattle.bytecode_model.specs.Program.{Program}
 use Rattle.method_flow.specs.Flow.{Coded, IsCodedOf}
 use Rattle.node_costs.specs.Costs.{AreOwnCosts}
-use Rattle.wcet.specs.declared.known.Known.{Known}
-use Rattle.wcet.specs.declared.prepared.Prepared.{Prepared}
-use Rattle.wcet.specs.Known.{BoundSetting}
-use Rattle.wcet.specs.Prepared.{AreWithout}
+use Rattle.bound_finder.specs.declared.known.Known.{Known}
+use Rattle.bound_finder.specs.declared.prepared.Prepared.{Prepared}
+use Rattle.bound_finder.specs.Known.{BoundSetting}
+use Rattle.bound_finder.specs.Prepared.{AreWithout}
 use Rattle.bound_report.specs.declared.callees.Callee.{Callee}
 use Rattle.bound_report.specs.declared.counts.NodeCount.{NodeCount}
 use Rattle.bound_report.specs.Callees.{callee_at, AreCalleesOf}

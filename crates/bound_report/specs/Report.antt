@@ -1,7 +1,7 @@
 -- Where the number that is printed of a method comes from: the visits of one greatest walk of each method that may run, times how often its number counts.
 use Rattle.std.specs.Prelude.{◌≡◌, ℕ, ◌+◌, ◌*◌, ◌/◌, nat_lt, List, [], ◌∷◌, map, filter, sum_by, All, Contains, Option, Some}
 use Rattle.std.specs.List.{flat_map}
-use Rattle.cache_regions.specs.Region.{AreDistinct}
+use Rattle.method_cache.specs.Regions.Region.{AreDistinct}
 use Rattle.bytecode_model.specs.Program.{Program}
 use Rattle.method_flow.specs.Keeping.{BoundOf}
 use Rattle.method_flow.specs.Regions.{IsGreatestLoad}
@@ -11,8 +11,8 @@ use Rattle.micro_flow.specs.Costs.{IsGreatestInvoke}
 use Rattle.bound_rules.specs.Numbers.{Numbers, AreNumbers}
 use Rattle.bound_report.specs.declared.counts.NodeCount.{NodeCount}
 use Rattle.bound_report.specs.declared.counts.MethodCounts.{MethodCounts}
-use Rattle.report_rows.specs.declared.rows.ReportRow.{ReportRow}
-use Rattle.report_rows.specs.Rows.{AreOfCode, cycles_of}
+use Rattle.bound_report.specs.declared.contents.rows.ReportRow.{ReportRow}
+use Rattle.bound_report.specs.Contents.Rows.{AreOfCode, cycles_of}
 use Rattle.bound_report.specs.declared.reports.Report.{Report}
 use Rattle.bound_report.specs.Counts.{IsMore, AreCountsOf}
 use Rattle.bound_report.specs.Times.{methods_of, AreTimes, AreOrdered}

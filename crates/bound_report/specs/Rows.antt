@@ -2,7 +2,7 @@
 use Rattle.std.specs.Prelude.{◌≡◌, ◌*◌, ◌^◌, ◌<◌, nat_lt, List, ◌++◌, filter, All}
 use Rattle.bound_report.specs.declared.counts.NodeCount.{NodeCount}
 use Rattle.bound_report.specs.declared.counts.MethodCounts.{MethodCounts}
-use Rattle.report_rows.specs.declared.rows.ReportRow.{ReportRow}
+use Rattle.bound_report.specs.declared.contents.rows.ReportRow.{ReportRow}
 
 -- the numbers of a node's row are within 128 bits
 pub record HasSmallRow (k : MethodCounts) (c : NodeCount) : Type 0 where

@@ -1,16 +1,16 @@
 -- What holds of methods, once all are found of an order and none of their numbers is too large.
 use Rattle.std.specs.Prelude.{◌≡◌, ℕ, false, List, Contains, Option, Some}
-use Rattle.cache_regions.specs.Region.{AreDistinct}
+use Rattle.method_cache.specs.Regions.Region.{AreDistinct}
 use Rattle.bytecode_model.specs.Program.{Program}
 use Rattle.method_flow.specs.Keeping.{BoundOf}
 use Rattle.method_flow.specs.declared.timing.Timing.{Timing}
 use Rattle.bound_rules.specs.Numbers.{AreNumbers}
-use Rattle.wcet.specs.declared.known.Known.{Known}
-use Rattle.wcet.specs.declared.methods.Methods.{Methods}
-use Rattle.wcet.specs.Known.{BoundSetting, bounds_in, ForEach, known_at, CalleesAreKnown, IsKnownOf, AreNumbersOf}
-use Rattle.wcet.specs.Laws.{numbers_by}
-use Rattle.wcet.specs.Methods.{AreMethodsFound}
-use Rattle.wcet.specs.Ready.{AreReady, IsReadyOrder}
+use Rattle.bound_finder.specs.declared.known.Known.{Known}
+use Rattle.bound_finder.specs.declared.methods.Methods.{Methods}
+use Rattle.bound_finder.specs.Known.{BoundSetting, bounds_in, ForEach, known_at, CalleesAreKnown, IsKnownOf, AreNumbersOf}
+use Rattle.bound_finder.specs.Laws.{numbers_by}
+use Rattle.bound_finder.specs.Methods.{AreMethodsFound}
+use Rattle.bound_finder.specs.Ready.{AreReady, IsReadyOrder}
 use Rattle.bound_report.specs.declared.counts.MethodCounts.{MethodCounts}
 use Rattle.bound_report.specs.Counts.{AreCountsOf}
 

@@ -5,11 +5,11 @@ use Rattle.bound_rules.specs.declared.faults.BoundRefusal.{BoundRefusal}
 use Rattle.bound_rules.specs.declared.faults.BoundRefusal.TheVariants.{NoMemory}
 use Rattle.compact_walks.specs.Limited.{cycles_limit, AreSmallAt}
 use Rattle.compact_walks.specs.Solving.{loops_of}
-use Rattle.walk_counts.specs.declared.WalkCounts.{WalkCounts}
-use Rattle.walk_counts.specs.Counts.{AreCounts}
-use Rattle.wcet.specs.declared.prepared.Prepared.{Prepared}
-use Rattle.wcet.specs.declared.found.Walked.TheVariants.{Never, Large}
-use Rattle.wcet.specs.Found.{costs_of, problem_of, IsWalked}
+use Rattle.bound_report.specs.declared.visits.WalkCounts.{WalkCounts}
+use Rattle.bound_report.specs.Visits.Counts.{AreCounts}
+use Rattle.bound_finder.specs.declared.prepared.Prepared.{Prepared}
+use Rattle.bound_finder.specs.declared.found.Walked.TheVariants.{Never, Large}
+use Rattle.bound_finder.specs.Found.{costs_of, problem_of, IsWalked}
 
 -- each node costs less than 2^64, and so does the greatest walk, of which these are the counts
 pub record AreWalkCounts (p : Prepared) (w : WalkCounts) : Type 0 where

@@ -3,16 +3,16 @@ ghost use Rattle.std.specs.Prelude.{◌≡◌, ◌≤◌, ◌<◌, ◌*◌, leng
 ghost use Rattle.std.specs.List.Sorted.{IsStrictlyIncreasing};
 ghost use Rattle.method_flow.specs.Flow.{places_of};
 ghost use Rattle.compact_walks.specs.Limited.{cycles_limit};
-ghost use Rattle.wcet.specs.Known.{IsLimited};
+ghost use Rattle.bound_finder.specs.Known.{IsLimited};
 ghost use Rattle.bound_report.specs.Callees.{number_by, better, loads_by, more_of, no_callee, IsGreatestTarget, IsCallee, AreCallees, AreCalleesOf};
 
 use base::NoMemory;
+use bound_finder::known::Known;
+use bound_finder::task::Task;
 use method_flow::{Call, FlowProgram};
 use node_costs::load;
 use opcodes::laws::starts_follow_one_another;
 use std::alloc::Global;
-use wcet::known::Known;
-use wcet::task::Task;
 
 /// The method whose number is added at a node, if any, and what is paid there for loads.
 #[derive(Clone, Copy)]

@@ -17,7 +17,7 @@ pub fn rows_are_of_code()
 pub fn settled_are_walked()
     ensures { SettledAreWalked }
 {
-    wcet::found_laws::known_is();
+    bound_finder::found_laws::known_is();
 }
 
 /// The counts of a greatest walk of a method that was prepared are counts of the method.

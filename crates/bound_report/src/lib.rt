@@ -4,15 +4,16 @@
 
 ghost use Rattle.std.specs.Prelude.{◌≡◌, ◌≤◌, ◌<◌, ℕ, length, All, Some, None, IfOk, IfErr, IfSome, IfNone};
 ghost use Rattle.bytecode_model.specs.Program.{Program};
-ghost use Rattle.cache_regions.specs.Region.{AreDistinct};
+ghost use Rattle.method_cache.specs.Regions.Region.{AreDistinct};
 ghost use Rattle.method_flow.specs.Flow.{IsFlowOf};
 ghost use Rattle.node_costs.specs.Costs.{bounds_of};
-ghost use Rattle.wcet.specs.declared.ending.MethodBound.TheVariants.{Printed};
-ghost use Rattle.wcet.specs.Ending.{IsMethodBound};
-ghost use Rattle.wcet.specs.Ready.{IsReadyOrder, IsSizeCause};
+ghost use Rattle.bound_finder.specs.declared.ending.MethodBound.TheVariants.{Printed};
+ghost use Rattle.bound_finder.specs.Ending.{IsMethodBound};
+ghost use Rattle.bound_finder.specs.Ready.{IsReadyOrder, IsSizeCause};
 ghost use Rattle.bound_report.specs.Report.{IsReportOf};
 
 mod callees;
+pub mod contents;
 mod counts;
 pub mod laws;
 mod methods;
@@ -21,20 +22,21 @@ mod parts;
 mod reports;
 mod rows;
 mod times;
+pub mod visits;
 mod walks;
 
+use bound_finder::methods::examine_all;
+use bound_finder::task::Task;
 use bound_rules::BoundRefusal;
+use bound_texts::loops::Bounds;
 use call_regions::Order;
-use loop_bounds::Bounds;
 use method_flow::{FlowProgram, Timing};
 pub use reports::Report;
 use reports::report_of;
 use std::alloc::Global;
-use wcet::methods::examine_all;
-use wcet::task::Task;
 
 /// Where the bound of the method `root` comes from, or `None` where it can't end. The arguments, what they must be and the time that it
-/// takes are those of `wcet::certify`. Callers stand before what they call, and the nodes of a method rise.
+/// takes are those of `bound_finder::certify`. Callers stand before what they call, and the nodes of a method rise.
 ///
 /// # Errors
 ///

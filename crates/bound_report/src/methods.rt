@@ -1,23 +1,23 @@
 //! The counts of one method.
 ghost use Rattle.std.specs.Prelude.{◌≡◌, ◌<◌, Some, length, slice_get, All, IfOk, IfErr};
 ghost use Rattle.method_flow.specs.Flow.{Coded, IsCoded};
-ghost use Rattle.wcet.specs.Known.{bounds_in, ForEach, IsLimited, IsBoundSetting};
-ghost use Rattle.wcet.specs.Prepared.{IsInShape, IsPreparedFor};
-ghost use Rattle.wcet.specs.Ready.{IsWantOfMemory};
+ghost use Rattle.bound_finder.specs.Known.{bounds_in, ForEach, IsLimited, IsBoundSetting};
+ghost use Rattle.bound_finder.specs.Prepared.{IsInShape, IsPreparedFor};
+ghost use Rattle.bound_finder.specs.Ready.{IsWantOfMemory};
 ghost use Rattle.bound_report.specs.Settled.{IsSettledAt, IsCountOf};
 
 use super::counts::{MethodCounts, NodeCount};
 use super::laws::{counts_are_of_walks, settled_are_walked};
 use super::nodes::nodes_of;
 use super::walks::{fees, walk_of};
+use crate::visits::WalkCounts;
 use base::NoMemory;
+use bound_finder::known::Known;
+use bound_finder::laws::ready_has_shape;
+use bound_finder::prepared::{Prepared, prepare};
+use bound_finder::task::Task;
 use bound_rules::BoundRefusal;
 use std::alloc::Global;
-use walk_counts::WalkCounts;
-use wcet::known::Known;
-use wcet::laws::ready_has_shape;
-use wcet::prepared::{Prepared, prepare};
-use wcet::task::Task;
 
 /// Says of what form the waits are and the method `m` is.
 fn form_of(task: &Task<'_>, m: u32)

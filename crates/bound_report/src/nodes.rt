@@ -1,19 +1,19 @@
 //! The nodes of a method with their visits, their own costs and what is called at them.
 ghost use Rattle.std.specs.Prelude.{◌≡◌, ◌<◌, length, slice_index, All, IfOk};
-ghost use Rattle.wcet.specs.Known.{IsLimited};
-ghost use Rattle.wcet.specs.Prepared.{IsInShape};
+ghost use Rattle.bound_finder.specs.Known.{IsLimited};
+ghost use Rattle.bound_finder.specs.Prepared.{IsInShape};
 ghost use Rattle.bound_report.specs.Callees.{callee_at};
 ghost use Rattle.bound_report.specs.Nodes.{counted_nodes, counted_node, AreNodesOf};
 
 use super::callees::{Callee, NO_CALLEE, callees_of};
 use super::counts::NodeCount;
 use base::NoMemory;
+use bound_finder::costs::without_loads;
+use bound_finder::known::Known;
+use bound_finder::prepared::Prepared;
+use bound_finder::task::Task;
 use node_costs::own_costs;
 use std::alloc::Global;
-use wcet::costs::without_loads;
-use wcet::known::Known;
-use wcet::prepared::Prepared;
-use wcet::task::Task;
 
 /// The counts of a node.
 fn counted_node(node: u32, visits: u128, own: u64, callee: Callee) -> NodeCount

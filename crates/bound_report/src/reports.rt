@@ -1,11 +1,11 @@
 //! The report of a root, once all that may run while it does is found.
 ghost use Rattle.std.specs.Prelude.{◌≡◌, ◌≤◌, ◌<◌, length, All, Some, None, IfOk, IfErr, IfSome, IfNone};
-ghost use Rattle.cache_regions.specs.Region.{AreDistinct};
+ghost use Rattle.method_cache.specs.Regions.Region.{AreDistinct};
 ghost use Rattle.method_flow.specs.Costs.{IsPrintedOf};
-ghost use Rattle.wcet.specs.Known.{bounds_in, known_at, ForEach, IsLimited};
-ghost use Rattle.wcet.specs.declared.ending.MethodBound.TheVariants.{Printed};
-ghost use Rattle.wcet.specs.Ending.{IsMethodBound};
-ghost use Rattle.wcet.specs.Ready.{IsSizeCause, IsWantOfMemory};
+ghost use Rattle.bound_finder.specs.Known.{bounds_in, known_at, ForEach, IsLimited};
+ghost use Rattle.bound_finder.specs.declared.ending.MethodBound.TheVariants.{Printed};
+ghost use Rattle.bound_finder.specs.Ending.{IsMethodBound};
+ghost use Rattle.bound_finder.specs.Ready.{IsSizeCause, IsWantOfMemory};
 ghost use Rattle.bound_report.specs.Report.{IsReportOf};
 ghost use Rattle.bound_report.specs.Settled.{AreReadyIn, IsSettled};
 
@@ -13,15 +13,15 @@ use super::callees::more_of;
 use super::parts::{greatest_invoke, loads_of};
 use super::rows::{rows_of, sum};
 use super::times::counts_of_all;
+use crate::contents::{ReportRow, ReportTotals};
 use base::NoMemory;
+use bound_finder::ending::{MethodBound, method_bound};
+use bound_finder::known::Known;
+use bound_finder::methods::Methods;
+use bound_finder::task::Task;
 use bound_rules::BoundRefusal;
 use node_costs::greatest_load;
-use report_rows::{ReportRow, ReportTotals};
 use std::alloc::Global;
-use wcet::ending::{MethodBound, method_bound};
-use wcet::known::Known;
-use wcet::methods::Methods;
-use wcet::task::Task;
 
 /// Where a bound comes from: the dearest invoke, what the nodes of the rows take by themselves, the loads, and the greatest load when
 /// control comes back. All these together are the bound, so each of them is below 2^64.

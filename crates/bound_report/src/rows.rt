@@ -4,8 +4,8 @@ ghost use Rattle.bound_report.specs.Rows.{AreSmallParts, AreSmallRows, HasSmallR
 ghost use Rattle.bound_report.specs.Report.{row_of, rows_of};
 
 use super::counts::{MethodCounts, NodeCount};
+use crate::contents::ReportRow;
 use base::NoMemory;
-use report_rows::ReportRow;
 use std::alloc::Global;
 
 /// The product, where it is within 128 bits.

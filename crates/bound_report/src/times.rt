@@ -1,7 +1,7 @@
 //! The counts of all methods, callers first, with how often the number of each counts.
 ghost use Rattle.std.specs.Prelude.{◌≡◌, ◌<◌, [], ◌∷◌, ◌++◌, if◌then◌else◌, length, All, IfOk, IfErr, OnOk};
-ghost use Rattle.wcet.specs.Known.{bounds_in, ForEach, IsLimited};
-ghost use Rattle.wcet.specs.Ready.{IsWantOfMemory};
+ghost use Rattle.bound_finder.specs.Known.{bounds_in, ForEach, IsLimited};
+ghost use Rattle.bound_finder.specs.Ready.{IsWantOfMemory};
 ghost use Rattle.bound_report.specs.Settled.{IsSettledAt};
 ghost use Rattle.bound_report.specs.Adding.{has_number, callers_of, AreMoreAt, AreTimesAdded, AddsCount, AreRootTimes, AreSettled, AreCountsOfAll};
 
@@ -9,10 +9,10 @@ use super::counts::{MethodCounts, NodeCount};
 use super::methods::method_counts;
 use super::rows::{product, sum};
 use base::NoMemory;
+use bound_finder::known::Known;
+use bound_finder::task::Task;
 use bound_rules::BoundRefusal;
 use std::alloc::Global;
-use wcet::known::Known;
-use wcet::task::Task;
 
 /// Whether a number is asked of the method.
 fn has_number(table: &[Known], m: u32) -> bool

@@ -2,16 +2,16 @@
 ghost use Rattle.std.specs.Prelude.{◌≡◌, if◌then◌else◌, length, IfOk, IfErr};
 ghost use Rattle.path_solver.specs.Regions.{charged};
 ghost use Rattle.compact_walks.specs.Limited.{ArePicked};
-ghost use Rattle.wcet.specs.Prepared.{IsInShape};
+ghost use Rattle.bound_finder.specs.Prepared.{IsInShape};
 ghost use Rattle.bound_report.specs.Walks.{AreWalkCounts, IsNotWalked};
 
+use crate::visits::{WalkCounts, walk_counts};
 use base::NoMemory;
+use bound_finder::prepared::Prepared;
 use bound_rules::BoundRefusal;
 use compact_walks::picked;
 use path_solver::solved::SolveFault;
 use std::alloc::Global;
-use walk_counts::{WalkCounts, walk_counts};
-use wcet::prepared::Prepared;
 
 /// What an entry of a loop is charged.
 fn fee(load: u64, charged: bool) -> u64

@@ -8,7 +8,7 @@ use Rattle.opcodes.specs.Start.{starts_of}
 use Rattle.bytecode_model.specs.Table.{row_of}
 use Rattle.lists.specs.Members.{at_head, cons_cases, nil_contains}
 use Rattle.micro_flow.specs.Costs.{IsGreatestInvoke}
-use Rattle.cache_regions.specs.Region.{AreDistinct}
+use Rattle.method_cache.specs.Regions.Region.{AreDistinct}
 use Rattle.loop_nest.specs.Digraph.{Digraph, Edge, IsBefore}
 use Rattle.loop_nest.specs.Walks.{Walk, IsReachable, IsHeader}
 use Rattle.loop_nest.specs.Walks.Walk.{stay, along}

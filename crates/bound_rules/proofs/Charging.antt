@@ -12,7 +12,7 @@ use Rattle.loop_nest.specs.Walks.{IsReachable, IsHeader, IsMember}
 use Rattle.loop_nest.specs.Nest.{NaturalLoop, headers_of, header_at, members_at, IsLoopOf, IsAround, IsNest}
 use Rattle.loop_nest.specs.Laws.{WalksComeByEdges, HeaderDominatesMembers, LoopsAreNested, DominanceIsAntisymmetric}
 use Rattle.loop_nest.proofs.Rising.{same_place}
-use Rattle.cache_regions.specs.Region.{AreDistinct}
+use Rattle.method_cache.specs.Regions.Region.{AreDistinct}
 use Rattle.section_check.specs.Placing.{IsEntryAt}
 use Rattle.path_solver.specs.Reaching.{IsFlagged}
 use Rattle.bytecode_model.specs.Program.{Program}

@@ -1,7 +1,7 @@
 -- Accepted sections without a value, and methods that can't end.
 use Rattle.std.proofs.Common.{ℕ, List, Option, None, sym, ◌∙◌}
 use Rattle.section_check.specs.Laws.{NoValueNoExit}
-use Rattle.bound_cert.specs.declared.cert.CertSection.{CertSection}
+use Rattle.certificates.specs.declared.cert.CertSection.{CertSection}
 use Rattle.bytecode_model.specs.Program.{Program}
 use Rattle.method_flow.specs.Keeping.{BoundOf}
 use Rattle.method_flow.specs.declared.timing.Timing.{Timing}

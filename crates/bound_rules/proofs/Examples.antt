@@ -14,8 +14,8 @@ use Rattle.section_check.specs.Section.{Certified, listed, potential, with_fee}
 use Rattle.section_check.specs.Placing.{IsInLoop, IsMisplaced, ExceedsLimit}
 use Rattle.section_check.specs.Placing.IsMisplaced.{lists_no_node, holds_no_node, heads_faulty, enters_aside, holds_entry, exceeds_limit}
 use Rattle.section_check.specs.Conditions.{EdgeHolds, ExitHolds, natural}
-use Rattle.bound_cert.specs.declared.lines.line.SectionKind.{SectionKind}
-use Rattle.bound_cert.specs.declared.lines.line.SectionKind.TheVariants.{Inside}
+use Rattle.certificates.specs.declared.lines.line.SectionKind.{SectionKind}
+use Rattle.certificates.specs.declared.lines.line.SectionKind.TheVariants.{Inside}
 use Rattle.method_flow.specs.Nodes.{Node, At, RaiseAt, number_of}
 use Rattle.method_flow.specs.Nodes.IsReached.{first, later}
 use Rattle.method_flow.specs.Calls.{IsTarget}

@@ -3,7 +3,7 @@ use Rattle.std.proofs.Common.{◌≡◌, ℕ, zero, suc, List, [], ◌∷◌, ge
 use Rattle.std.proofs.lemmas.List.Elements.{Contains-get_or}
 use Rattle.lists.specs.Members.{at_head, in_tail, cons_cases, nil_contains}
 use Rattle.method_cache.specs.Contents.{blocks_for}
-use Rattle.cache_regions.specs.Region.{AreDistinct}
+use Rattle.method_cache.specs.Regions.Region.{AreDistinct}
 use Rattle.bytecode_model.specs.Program.{Program}
 use Rattle.method_flow.specs.Regions.{IsWithin, code_words}
 use Rattle.method_flow.specs.Regions.IsWithin.{calls}

@@ -9,8 +9,8 @@ use Rattle.section_check.specs.Placing.IsMisplaced.{lists_no_node, holds_no_node
 use Rattle.section_check.specs.Conditions.{DescendsFrom, CoversCost, EdgeHolds, ExitHolds, EdgesHold, value_of}
 use Rattle.section_check.specs.Section.{headed_by}
 use Rattle.section_check.specs.Least.{IsLeast}
-use Rattle.bound_cert.specs.declared.cert.CertSection.{CertSection}
-use Rattle.bound_cert.specs.Certificate.{Certificate}
+use Rattle.certificates.specs.declared.cert.CertSection.{CertSection}
+use Rattle.certificates.specs.Certificate.{Certificate}
 use Rattle.bytecode_model.specs.Program.{Program, body_of}
 use Rattle.method_flow.specs.Keeping.{BoundOf}
 use Rattle.method_flow.specs.declared.timing.Timing.{Timing}

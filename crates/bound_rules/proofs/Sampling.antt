@@ -14,7 +14,7 @@ use Rattle.section_check.specs.Placing.{IsEntryAt, IsInLoop, IsFaulty, IsMisplac
 use Rattle.section_check.specs.Placing.IsFaulty.{shares_header, leaves_header_out, crosses_another, does_not_fit, lies_in_region}
 use Rattle.section_check.specs.Placing.IsMisplaced.{lists_no_node, holds_no_node, heads_faulty, enters_aside, holds_entry, exceeds_limit}
 use Rattle.section_check.specs.Conditions.{EdgeHolds, ExitHolds, natural}
-use Rattle.bound_cert.specs.declared.lines.line.SectionKind.TheVariants.{Loops}
+use Rattle.certificates.specs.declared.lines.line.SectionKind.TheVariants.{Loops}
 use Rattle.method_flow.specs.Nodes.{Node, At, RaiseAt, number_of}
 use Rattle.method_flow.specs.Nodes.IsReached.{first, later}
 use Rattle.method_flow.specs.Calls.{IsCall, IsStartOf, IsTarget}

@@ -5,7 +5,7 @@ use Rattle.std.proofs.lemmas.List.{get_or_default}
 use Rattle.loop_nest.specs.Digraph.{Edge}
 use Rattle.section_check.specs.Section.{CertifiedLoop}
 use Rattle.section_check.specs.Placing.{IsEntryAt}
-use Rattle.bound_cert.specs.declared.cert.CertSection.{CertSection}
+use Rattle.certificates.specs.declared.cert.CertSection.{CertSection}
 use Rattle.bytecode_model.specs.Program.{Program, body_of}
 use Rattle.method_flow.specs.Nodes.{Node, At, RaiseAt, number_of}
 use Rattle.method_flow.specs.Nodes.IsReached.{first, later}

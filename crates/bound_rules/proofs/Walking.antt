@@ -6,7 +6,7 @@ use Rattle.loop_nest.specs.Walks.Walk.{stay, along}
 use Rattle.section_check.specs.Bounded.{cost_of}
 use Rattle.section_check.specs.Section.{PricedLoop}
 use Rattle.section_check.specs.Laws.{loops_of, OwnBoundsSuffice, AcceptedBoundWalks}
-use Rattle.bound_cert.specs.declared.cert.CertSection.{CertSection}
+use Rattle.certificates.specs.declared.cert.CertSection.{CertSection}
 use Rattle.bytecode_model.specs.Program.{Program}
 use Rattle.method_flow.specs.Nodes.{Node, At, number_of, IsReached}
 use Rattle.method_flow.specs.Nodes.IsReached.{first, later}

@@ -2,9 +2,9 @@
 -- and returns, methods 4 and 5 invoke each other, and method 8 has no code.
 use Rattle.std.specs.Prelude.{◌≡◌, ◌≢◌, ℕ, ◌+◌, ◌-◌, ◌*◌, ◌<◌, ◌≤◌, ◌^◌, ◌==◌, ◌&&◌, if◌then◌else◌, ℤ, pos, true, false, List, [], ◌∷◌, Option, Some, None}
 use Rattle.micro_flow.specs.Costs.{IsGreatestInvoke}
-use Rattle.bound_cert.specs.declared.lines.line.SectionKind.TheVariants.{Inside, Loops}
-use Rattle.bound_cert.specs.declared.cert.CertSection.{CertSection}
-use Rattle.bound_cert.specs.Certificate.{Certificate}
+use Rattle.certificates.specs.declared.lines.line.SectionKind.TheVariants.{Inside, Loops}
+use Rattle.certificates.specs.declared.cert.CertSection.{CertSection}
+use Rattle.certificates.specs.Certificate.{Certificate}
 use Rattle.method_flow.specs.Nodes.{At, RaiseAt}
 use Rattle.method_flow.specs.Keeping.{BoundOf}
 use Rattle.method_flow.specs.Regions.{IsGreatestLoad}

@@ -7,8 +7,8 @@ use Rattle.section_check.specs.Bounded.{BoundedLoop, cost_of}
 use Rattle.section_check.specs.Section.{CertifiedLoop}
 use Rattle.section_check.specs.Placing.{IsEntryAt}
 use Rattle.section_check.specs.Laws.{loops_of}
-use Rattle.bound_cert.specs.declared.cert.CertSection.{CertSection}
-use Rattle.bound_cert.specs.Certificate.{Certificate}
+use Rattle.certificates.specs.declared.cert.CertSection.{CertSection}
+use Rattle.certificates.specs.Certificate.{Certificate}
 use Rattle.path_solver.specs.Longest.{IterationsExceed}
 use Rattle.bytecode_model.specs.Program.{Program, body_of}
 use Rattle.bytecode_typing.specs.Lawful.{Lawful}

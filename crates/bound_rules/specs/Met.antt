@@ -1,6 +1,6 @@
 -- Sections that meet their conditions one behind another.
 use Rattle.std.specs.Prelude.{ℕ, List, [], ◌∷◌, ◌++◌, Option}
-use Rattle.bound_cert.specs.declared.cert.CertSection.{CertSection}
+use Rattle.certificates.specs.declared.cert.CertSection.{CertSection}
 use Rattle.bytecode_model.specs.Program.{Program}
 use Rattle.method_flow.specs.Keeping.{BoundOf}
 use Rattle.method_flow.specs.declared.timing.Timing.{Timing}

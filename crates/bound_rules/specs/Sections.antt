@@ -4,7 +4,7 @@ use Rattle.loop_nest.specs.Digraph.{Digraph}
 use Rattle.section_check.specs.Section.{CertifiedLoop, PricedLoop, listed, priced}
 use Rattle.section_check.specs.Placing.{IsEntryAt, IsInLoop}
 use Rattle.section_check.specs.Conditions.{IsAccepted, value_of}
-use Rattle.bound_cert.specs.declared.cert.CertSection.{CertSection}
+use Rattle.certificates.specs.declared.cert.CertSection.{CertSection}
 use Rattle.bytecode_model.specs.Program.{Program, body_of}
 use Rattle.method_flow.specs.Nodes.{Node, At, number_of, IsEdge, IsReached}
 use Rattle.method_flow.specs.Calls.{IsCall, IsTarget}

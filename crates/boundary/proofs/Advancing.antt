@@ -3,7 +3,7 @@ use Rattle.std.proofs.Common.{◌≡◌, ◌≢◌, ℕ, ◌+◌, ◌≤◌, Lis
 use Rattle.std.proofs.lemmas.List.{append_cancel_left}
 use Rattle.micro_sketch.proofs.Breaking.{empty}
 use Rattle.micro_flow.specs.Closed.{RaiseApart}
-use Rattle.microcode_rom.specs.declared.TheConstants.{RAISE}
+use Rattle.microcode.specs.declared.TheConstants.{RAISE}
 use Rattle.jop_core.specs.declared.halt.Halt.TheVariants as halts
 use Rattle.device_traits.specs.declared.fault.DeviceFault.{DeviceFault}
 use Rattle.device_traits.specs.declared.fault.DeviceFault.TheVariants as faults

@@ -22,7 +22,7 @@ use Rattle.bytecode_typing.specs.Typed.{RaisesNothing}
 use Rattle.bytecode_typing.specs.Fits.{Fits, IsGoing, FramesFit, numbers_of}
 use Rattle.bytecode_typing.specs.Laws.{TypedProgramsKeep, FittingStatesAreWellFormed}
 use Rattle.machine_stands.specs.Bare as bare
-use Rattle.machine_frames.specs.Shows.{top_frame}
+use Rattle.machine_stands.specs.ShownFrames.Shows.{top_frame}
 use Rattle.boundary.specs.BareLaws.{opcode_of, BareImagesStep}
 use Rattle.boundary.specs.Laws.{BareImagesArePrograms}
 use Rattle.boundary.specs.Setting.{limits, bare_setting}

@@ -20,7 +20,7 @@ use Rattle.machine_stands.specs.Frames.{FrameWords, AreWordsOfFrames, stacked}
 use Rattle.machine_stands.specs.StandsFor.{StandsFor}
 use Rattle.machine_stands.specs.Counted.{FiveAreSaved}
 use Rattle.machine_stands.proofs.Counting.{locals_count, operands_count}
-use Rattle.machine_frames.specs.Shows.{top_frame}
+use Rattle.machine_stands.specs.ShownFrames.Shows.{top_frame}
 
 abbrev pub frame_height : Frame → ℕ
 frame_height f = length f.locals + 5 + sum_by value_words f.operands

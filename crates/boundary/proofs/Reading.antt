@@ -16,8 +16,8 @@ use Rattle.bytecode_model.specs.WellFormed.{ModeFits, top_operands}
 use Rattle.bytecode_typing.specs.Laws.{FittingStatesAreWellFormed}
 use Rattle.image_facts.specs.Places.{Places}
 use Rattle.machine_stands.specs.StandsFor.{StandsFor, IsAt}
-use Rattle.machine_frames.specs.Shows as frames
-use Rattle.machine_frames.specs.Shows.{Shows, IsShown, IsRunning, EachRunning, IsRaising, EachRaising, top_frame}
+use Rattle.machine_stands.specs.ShownFrames.Shows as frames
+use Rattle.machine_stands.specs.ShownFrames.Shows.{ShowsState, IsShown, IsRunning, EachRunning, IsRaising, EachRaising, top_frame}
 use Rattle.boundary.specs.declared.answer.Boundary.{Boundary}
 use Rattle.boundary.specs.declared.answer.Boundary.TheVariants as answers
 use Rattle.boundary.specs.Answers.{answer_of, goes_on, is_raise, HasFrames}
@@ -44,7 +44,7 @@ not_raise mode b is off raise = let clash : true ≡ false = sym (ap is_raise ra
 goes_so : (mode : Result Boundary DeviceFault) → HasFrames mode → goes_on mode ≡ true
 goes_so mode going = ⊎_elim (λ e. ap goes_on e) (λ e. ap goes_on e) going
 
-pub shows : FittingStatesAreWellFormed → (g : Setting) (methods : List CodedMethod) (m : machine.MachineState) (s : State) → IsStateOf g methods m s → Shows methods m g.program g.places g.chip g.memory s
+pub shows : FittingStatesAreWellFormed → (g : Setting) (methods : List CodedMethod) (m : machine.MachineState) (s : State) → IsStateOf g methods m s → ShowsState methods m g.program g.places g.chip g.memory s
 shows well g methods m s h = record { says = h.is_setting.says; methods_are = h.methods_are; stands = h.stands.stands; formed = well g.program g.types (limits g) h.is_setting.typed s h.stands.fits }
 
 -- a run that goes on
@@ -56,7 +56,7 @@ module _ (well : FittingStatesAreWellFormed) (n : ℕ) (r : Session) (going : Ha
   shown =
       let g = here.setting in
       let is : IsStateOf here.setting r.methods r.machine here.state = record { is_setting = here.is_setting; methods_are = here.methods; stands = here.stands } in
-      (record { program = g.program; places = g.places; memory = g.memory; state = here.state; shows = subst (λ k. Shows r.methods r.machine g.program g.places k g.memory here.state) here.chip (shows well g r.methods r.machine here.state is) }, refl)
+      (record { program = g.program; places = g.places; memory = g.memory; state = here.state; shows = subst (λ k. ShowsState r.methods r.machine g.program g.places k g.memory here.state) here.chip (shows well g r.methods r.machine here.state is) }, refl)
 
   -- each state goes on as is known of the run
   pub each_mode : StagesAgree → (g : Setting) (s : State) → IsStateOf g r.methods r.machine s → Ok (answer_of s.mode) ≡ r.mode

@@ -10,12 +10,12 @@ use Rattle.std.proofs.lemmas.List.{get_or_append_left, take-replicate, length-re
 use Rattle.std.proofs.Math.Seq.{drop-append_seam, take-append_seam}
 use Rattle.machine_stands.proofs.Beginning.{cache_is, cached_one, contents_are, least}
 use Rattle.lists.proofs.Lemmas.{onto_some}
-use Rattle.stack_cache.specs.Size.{IsSize}
-use Rattle.microcode_rom.specs.declared.TheConstants.{CONSTANTS as NUMBERS}
+use Rattle.machine_memory.specs.Stack.Size.{IsSize}
+use Rattle.microcode.specs.declared.TheConstants.{CONSTANTS as NUMBERS}
 use Rattle.jop_core.specs.declared.places.TheConstants.{CONSTANTS, STACK}
 use Rattle.base.specs.Packed.{words_for, words_of_bytes, PackedHasBytes, PackedHasWords}
 use Rattle.method_cache.specs.Contents.{Entry, Cache, blocks_for, empty, loaded, can_load}
-use Rattle.memory_timing.specs.declared.Config.{Config}
+use Rattle.machine_memory.specs.declared.timing.Config.{Config}
 use Rattle.jop_core.specs.Reset.{Start, reset_of, reset_words, places}
 use Rattle.bytecode_model.specs.declared.Value.{Value}
 use Rattle.bytecode_model.specs.declared.Value.TheVariants.{Int, Long, Null, Unset}

@@ -3,7 +3,7 @@ use Rattle.std.proofs.Common.{◌≡◌, ◌≢◌, ℕ, zero, suc, ◌<◌, tru
 use Rattle.std.specs.Prelude.{IfSome, IsSomeAnd, IsTrue, slice_get}
 use Rattle.std.proofs.lemmas.List.{append_cancel_left}
 use Rattle.micro_flow.specs.Closed.{RaiseApart}
-use Rattle.microcode_rom.specs.declared.TheConstants.{RAISE}
+use Rattle.microcode.specs.declared.TheConstants.{RAISE}
 use Rattle.opcodes.specs.Bytes.{u1}
 use Rattle.opcodes.specs.Start.{IsStart}
 use Rattle.opcodes.specs.Reading.{InstructionsAreOfTheirForm}

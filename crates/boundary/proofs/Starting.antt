@@ -2,8 +2,8 @@
 use Rattle.std.proofs.Common.{◌≡◌, ℕ, List, Option, Some, Ok, map, refl, sym, ap, subst}
 use Rattle.std.specs.Prelude.{slice_get}
 use Rattle.lists.proofs.Lemmas.{onto_some}
-use Rattle.stack_cache.specs.Size.{IsSize}
-use Rattle.memory_timing.specs.declared.Config.{Config}
+use Rattle.machine_memory.specs.Stack.Size.{IsSize}
+use Rattle.machine_memory.specs.declared.timing.Config.{Config}
 use Rattle.image_file.specs.Bare.{BareContent, IsBareContent}
 use Rattle.std.specs.declared.result.Result.{Result}
 use Rattle.device_traits.specs.declared.fault.DeviceFault.{DeviceFault}

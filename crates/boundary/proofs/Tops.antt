@@ -5,7 +5,7 @@ use Rattle.jop_core.specs.State as machine
 use Rattle.jop_core.specs.declared.places.TheConstants.{STACK}
 use Rattle.bytecode_model.specs.State.{Frame}
 use Rattle.machine_stands.specs.Counted.{FiveAreSaved}
-use Rattle.machine_frames.specs.Shows.{top_frame}
+use Rattle.machine_stands.specs.ShownFrames.Shows.{top_frame}
 use Rattle.run_follower.specs.declared.here.Here.{Here}
 use Rattle.run_follower.specs.Handed.{later_in}
 use Rattle.boundary.specs.declared.top.TopFrame.{TopFrame}

@@ -8,7 +8,7 @@ use Rattle.device_traits.specs.Told.{Told}
 use Rattle.bytecode_model.specs.State.{State}
 use Rattle.bytecode_typing.specs.Fits.{IsGoing}
 use Rattle.image_facts.specs.Methods.{AreMethods}
-use Rattle.machine_frames.specs.Shows.{top_frame}
+use Rattle.machine_stands.specs.ShownFrames.Shows.{top_frame}
 use Rattle.run_follower.specs.declared.here.Here.{Here}
 use Rattle.run_follower.specs.Following.{followed}
 use Rattle.boundary.specs.declared.runs.RunEnd.{RunEnd}

@@ -1,7 +1,7 @@
 -- What is proved of bare images as programs.
 use Rattle.std.specs.Prelude.{ℕ}
-use Rattle.memory_timing.specs.declared.Config.{Config}
-use Rattle.stack_cache.specs.Size.{IsSize}
+use Rattle.machine_memory.specs.declared.timing.Config.{Config}
+use Rattle.machine_memory.specs.Stack.Size.{IsSize}
 use Rattle.image_file.specs.Bare.{BareContent, IsBareContent}
 use Rattle.jop_core.specs.Reset.{bare_reset, CanStartBare}
 use Rattle.boundary.specs.Setting.{IsSetting, bare_setting}

@@ -1,9 +1,9 @@
 -- A linked program at the start of its run.
 use Rattle.std.specs.Prelude.{◌≡◌, ℕ, ◌-◌, ◌≤◌, true, List, length, IfSome, IsTrue}
-use Rattle.stack_cache.specs.Size.{IsSize}
+use Rattle.machine_memory.specs.Stack.Size.{IsSize}
 use Rattle.base.specs.Packed.{words_for}
 use Rattle.method_cache.specs.Contents.{empty, can_load}
-use Rattle.memory_timing.specs.declared.Config.{Config}
+use Rattle.machine_memory.specs.declared.timing.Config.{Config}
 use Rattle.jop_core.specs.State as machine
 use Rattle.jop_core.specs.Reset.{CanStart, linked_reset}
 use Rattle.bytecode_model.specs.Sizes.{body_words}

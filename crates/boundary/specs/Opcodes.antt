@@ -7,7 +7,7 @@ use Rattle.bytecode_model.specs.declared.Ending.TheVariants.{Running}
 use Rattle.bytecode_model.specs.Lists.{onto}
 use Rattle.bytecode_model.specs.State.{State}
 use Rattle.bytecode_model.specs.Program.{Program, body_of}
-use Rattle.machine_frames.specs.Shows.{top_frame}
+use Rattle.machine_stands.specs.ShownFrames.Shows.{top_frame}
 
 -- its opcode
 abbrev pub opcode_of : Program → State → Option ℕ

@@ -3,7 +3,7 @@ use Rattle.std.specs.Prelude.{◌≡◌, ◌≢◌, ℕ, ◌≤◌, Bool, List, 
 use Rattle.std.specs.declared.option.Option.{Option}
 use Rattle.std.specs.declared.result.Result.{Result}
 use Rattle.device_traits.specs.declared.fault.DeviceFault.{DeviceFault}
-use Rattle.memory_timing.specs.declared.TheConstants.{MAX_WAIT}
+use Rattle.machine_memory.specs.declared.timing.TheConstants.{MAX_WAIT}
 use Rattle.jop_core.specs.declared.halt.Halt.TheVariants as halts
 use Rattle.jop_core.specs.State as machine
 use Rattle.bytecode_model.specs.State.{Frame, State}
@@ -13,7 +13,7 @@ use Rattle.boundary.specs.declared.answer.Boundary.{Boundary}
 use Rattle.boundary.specs.Answers.{answer_of, answer_at_end, goes_on}
 use Rattle.image_facts.specs.declared.method.CodedMethod.{CodedMethod}
 use Rattle.image_facts.specs.Methods.{AreMethods}
-use Rattle.machine_frames.specs.Shows.{top_frame}
+use Rattle.machine_stands.specs.ShownFrames.Shows.{top_frame}
 use Rattle.boundary.specs.Setting.{Setting, IsSetting, Stands}
 
 -- The machine, the methods with code of the program that it runs, and how the state goes on for which it stands, or which call on the device failed.

@@ -1,7 +1,7 @@
 -- The top frame of a run, as it is told from one boundary to the next, and what a follower is handed there.
 use Rattle.std.specs.Prelude.{◌≡◌, length, IsSomeAnd}
 use Rattle.image_facts.specs.Methods.{AreMethods}
-use Rattle.machine_frames.specs.Shows.{top_frame}
+use Rattle.machine_stands.specs.ShownFrames.Shows.{top_frame}
 use Rattle.run_follower.specs.declared.here.Here.{Here}
 use Rattle.run_follower.specs.Handed.{WasHanded}
 use Rattle.boundary.specs.declared.top.TopFrame.{TopFrame}

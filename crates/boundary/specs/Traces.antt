@@ -14,7 +14,7 @@ use Rattle.run_devices.specs.Traced.{LineIsPut, LineFails}
 use Rattle.bytecode_model.specs.State.{State}
 use Rattle.bytecode_model.specs.Sizes.{value_words}
 use Rattle.bytecode_typing.specs.Fits.{IsGoing}
-use Rattle.machine_frames.specs.Shows.{top_frame}
+use Rattle.machine_stands.specs.ShownFrames.Shows.{top_frame}
 use Rattle.boundary.specs.declared.answer.Boundary.{Boundary}
 use Rattle.boundary.specs.declared.runs.RunEnd.{RunEnd}
 use Rattle.boundary.specs.Opcodes.{next_opcode}

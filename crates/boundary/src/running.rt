@@ -1,6 +1,6 @@
 //! A run of the machine.
 ghost use Rattle.std.specs.Prelude.{◌≡◌, ◌<◌, ◌^◌, true, false, length, IfOk};
-ghost use Rattle.stack_cache.specs.Size.{IsSize};
+ghost use Rattle.machine_memory.specs.Stack.Size.{IsSize};
 ghost use Rattle.jop_core.specs.Reset.{CanStartBare, bare_reset, linked_reset};
 ghost use Rattle.image_facts.specs.Methods.{AreMethods};
 ghost use Rattle.boundary.specs.Answers.{goes_on, is_raise};

@@ -8,7 +8,7 @@ use Rattle.std.proofs.lemmas.List.Sorted.{All-permutation, sum_by-IsPermutation,
 use Rattle.std.proofs.lemmas.List.Elements.{All-contains}
 use Rattle.base.specs.Packed.{words_for}
 use Rattle.method_cache.specs.Contents.{blocks_for}
-use Rattle.cache_regions.specs.Region.{AreDistinct}
+use Rattle.method_cache.specs.Regions.Region.{AreDistinct}
 use Rattle.lists.proofs.Lemmas.{some_is, some_same, none≢some}
 use Rattle.lists.specs.Members.{at_head, cons_cases, nil_contains}
 use Rattle.bytecode_model.specs.Program.{Program, Body, body_of}

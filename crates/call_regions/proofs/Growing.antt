@@ -3,8 +3,8 @@ use Rattle.std.proofs.Common.{◌≡◌, ◌⊎◌, ℕ, ◌+◌, ◌≤◌, Lis
 use Rattle.std.proofs.lemmas.List.{append-nil, append_assoc}
 use Rattle.std.proofs.lemmas.List.Sums.{sum_by_push}
 use Rattle.std.proofs.lemmas.List.Elements.{All-push, Contains-push, Contains-push_cases, Contains-append_left}
-use Rattle.cache_regions.specs.Region.{AreDistinct}
-use Rattle.upward_sets.specs.Numbers.{with_number}
+use Rattle.method_cache.specs.Regions.Region.{AreDistinct}
+use Rattle.number_sets.specs.Numbers.{with_number}
 use Rattle.method_flow.specs.Flow.{Flow}
 use Rattle.call_regions.specs.Tables.{IsOfTable, blocks_in}
 use Rattle.call_regions.specs.Searching.{IsSearch, Adds, FindsAll}

@@ -9,8 +9,8 @@ use Rattle.std.proofs.lemmas.List.Elements.{Contains-push, Contains-push_cases, 
 use Rattle.std.proofs.lemmas.List.Quantifiers.{all_pairs_push}
 use Rattle.lists.specs.Members.{at_head, in_tail, cons_cases, nil_contains}
 use Rattle.lists.specs.Numbers.{is_among}
-use Rattle.upward_sets.specs.Numbers.{with_number}
-use Rattle.cache_regions.specs.Region.{AreDistinct}
+use Rattle.number_sets.specs.Numbers.{with_number}
+use Rattle.method_cache.specs.Regions.Region.{AreDistinct}
 
 -- ---- what a list contains
 

@@ -7,7 +7,7 @@ use Rattle.std.proofs.lemmas.List.Sums.{sum_by-set}
 use Rattle.std.proofs.lemmas.List.Elements.{All-from_get_or, All-weaker, All-contains, Contains-push, Contains-push_cases, Contains-append_left, Contains-get_or}
 use Rattle.std.proofs.lemmas.Option.{slice_get-get_or, slice_get_within, get_or_from_slice_get}
 use Rattle.lists.specs.Members.{nil_contains}
-use Rattle.cache_regions.specs.Region.{AreDistinct}
+use Rattle.method_cache.specs.Regions.Region.{AreDistinct}
 use Rattle.method_flow.specs.Flow.{Flow, targets_of_call}
 use Rattle.call_regions.specs.Tables.{IsOfTable, Runs, IsReached}
 use Rattle.call_regions.specs.Tables.IsReached.{later}

@@ -2,7 +2,7 @@
 use Rattle.std.specs.Prelude.{ℕ, ◌<◌, List, length, All}
 use Rattle.std.specs.List.Sorted.{IsStrictlyIncreasing}
 use Rattle.bytecode_model.specs.Program.{Program}
-use Rattle.cache_regions.specs.Region.{AreDistinct}
+use Rattle.method_cache.specs.Regions.Region.{AreDistinct}
 use Rattle.method_flow.specs.Flow.{Flow}
 use Rattle.method_flow.specs.Regions.{AreMethodsOf, Fit}
 use Rattle.call_regions.specs.declared.answers.Region.{Region}

@@ -1,7 +1,7 @@
 -- The search for all methods that may run, until they pass the cache.
 use Rattle.std.specs.Prelude.{◌≡◌, ◌⊎◌, ℕ, ◌^◌, ◌<◌, ◌≤◌, List, [], ◌∷◌, ◌++◌, sum_by, All, Contains}
 use Rattle.std.specs.List.Sorted.{IsStrictlyIncreasing, IsPermutation}
-use Rattle.cache_regions.specs.Region.{AreDistinct}
+use Rattle.method_cache.specs.Regions.Region.{AreDistinct}
 use Rattle.method_flow.specs.Flow.{Flow}
 use Rattle.call_regions.specs.Tables.{IsOfTable, IsReached, blocks_in}
 use Rattle.call_regions.specs.declared.search.Search.{Search}

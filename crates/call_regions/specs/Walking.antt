@@ -1,7 +1,7 @@
 -- The depth-first walk that puts targets first.
 use Rattle.std.specs.Prelude.{◌≡◌, ◌≢◌, ◌↔◌, ℕ, ◌+◌, ◌-◌, ◌<◌, Bool, true, false, List, [], length, map, take, sum_by, All, Contains, slice_get, slice_index}
 use Rattle.std.specs.Prelude.{slice_index_or, Some}
-use Rattle.cache_regions.specs.Region.{AreDistinct}
+use Rattle.method_cache.specs.Regions.Region.{AreDistinct}
 use Rattle.method_flow.specs.Flow.{Flow, Coded, targets_of_call}
 use Rattle.method_flow.specs.declared.flow.Call.{Call}
 use Rattle.call_regions.specs.Tables.{IsOfTable, Runs, IsReached}

@@ -2,7 +2,7 @@
 ghost use Rattle.std.specs.Prelude.{◌≡◌, ◌<◌, length, IfOk, OnOk};
 ghost use Rattle.std.specs.List.Sorted.{IsStrictlyIncreasing, IsPermutation};
 ghost use Rattle.bytecode_model.specs.Program.{Program};
-ghost use Rattle.cache_regions.specs.Region.{AreDistinct};
+ghost use Rattle.method_cache.specs.Regions.Region.{AreDistinct};
 ghost use Rattle.method_flow.specs.Flow.{IsFlowOf};
 ghost use Rattle.method_flow.specs.Regions.{IsWithin, IsWithinNodes};
 ghost use Rattle.call_regions.specs.Regions.{AreOfTable, IsRegionAnswer};

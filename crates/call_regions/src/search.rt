@@ -10,8 +10,8 @@ use super::calls::calls_of;
 use super::sizes::blocks;
 use base::NoMemory;
 use method_flow::{Call, FlowProgram};
+use number_sets::NumberSet;
 use std::alloc::Global;
-use upward_sets::NumberSet;
 
 /// So many blocks of so many words.
 #[derive(Clone, Copy)]

@@ -1,7 +1,7 @@
 -- The first part of the microcode of invokestatic, by computing on the sketch.
 use Rattle.std.proofs.Common.{◌≡◌, ℕ, ◌+◌, ◌-◌, ◌*◌, ◌/◌, ◌%◌, ◌^◌, List, [], ◌∷◌, length, refl}
 use Rattle.std.specs.Prelude.{slice_index}
-use Rattle.microcode_rom.specs.declared.addresses.TheConstants.{INVOKESTATIC, INVOKE}
+use Rattle.microcode.specs.declared.addresses.TheConstants.{INVOKESTATIC, INVOKE}
 use Rattle.micro_sketch.specs.Sketch.{Sketch, exec, abyte}
 use Rattle.micro_sketch.specs.Operand.{past}
 use Rattle.call_steps.proofs.Parts.{Low, at}

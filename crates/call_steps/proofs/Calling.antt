@@ -2,7 +2,7 @@
 use Rattle.std.proofs.Common.{◌≡◌, ℕ, ◌+◌, ◌-◌, ◌*◌, ◌/◌, ◌%◌, ◌^◌, ◌<◌, ◌≤◌, List, [], ◌∷◌, length, sym, ap, ◌∙◌, refl, arith, length-append}
 use Rattle.std.specs.Prelude.{slice_index}
 use Rattle.std.proofs.Math.Nat.{mod-eq_of_lt}
-use Rattle.microcode_rom.specs.declared.addresses.TheConstants.{INVOKESTATIC}
+use Rattle.microcode.specs.declared.addresses.TheConstants.{INVOKESTATIC}
 use Rattle.micro_sketch.specs.Sketch.{Sketch, abyte}
 use Rattle.micro_sketch.specs.Stands.{Env, Shaped, Reaches}
 use Rattle.micro_sketch.specs.Operand.{past, two_byte_operand}

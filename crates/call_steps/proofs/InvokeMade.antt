@@ -2,7 +2,7 @@
 use Rattle.std.proofs.Common.{◌≡◌, ℕ, ◌+◌, ◌-◌, ◌%◌, ◌^◌, ◌<◌, ◌≤◌, ◌&&◌, Bool, true, false, List, [], ◌∷◌, ◌++◌, length, reverse, bit_and, refl, sym, ap, ◌∙◌, arith, append_assoc, length-append, zero-add}
 use Rattle.std.proofs.lemmas.List.{length-reverse}
 use mathlib.Core.List.{reverse_aux}
-use Rattle.microcode_rom.specs.declared.addresses.TheConstants.{INVOKE}
+use Rattle.microcode.specs.declared.addresses.TheConstants.{INVOKE}
 use Rattle.micro_sketch.specs.Sketch.{Sketch, exec, can_find}
 use Rattle.micro_sketch.specs.Stands.{Env, Shaped, Reaches, IsDone}
 use Rattle.micro_sketch.specs.Rows.{Switches}

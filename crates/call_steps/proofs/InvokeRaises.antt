@@ -3,7 +3,7 @@ use Rattle.std.proofs.Common.{◌≡◌, ℕ, ◌+◌, ◌/◌, ◌%◌, ◌^◌
 use Rattle.std.specs.Prelude.{slice_index}
 use Rattle.std.proofs.Math.Nat.{mod-eq_of_lt}
 use Rattle.std.proofs.lemmas.Bool.Decides.{nat_tests}
-use Rattle.microcode_rom.specs.declared.TheConstants.{RAISE}
+use Rattle.microcode.specs.declared.TheConstants.{RAISE}
 use Rattle.jop_core.specs.Operations.{number_of}
 use Rattle.micro_sketch.specs.Sketch.{Sketch, exec, same_bool}
 use Rattle.micro_sketch.specs.Stands.{Env, Shaped, Reaches, IsDone}

@@ -2,7 +2,7 @@
 use Rattle.std.proofs.Common.{◌≡◌, ℕ, ◌+◌, ◌-◌, ◌*◌, ◌/◌, ◌%◌, ◌^◌, ◌&&◌, Bool, true, false, List, [], ◌∷◌, nat_lt, bit_and, if◌then◌else◌, refl}
 use Rattle.std.specs.Prelude.{slice_index}
 use Rattle.jop_core.specs.Operations.{number_of}
-use Rattle.microcode_rom.specs.declared.addresses.TheConstants.{INVOKE}
+use Rattle.microcode.specs.declared.addresses.TheConstants.{INVOKE}
 use Rattle.jop_core.specs.Operations.{code_words}
 use Rattle.method_cache.specs.Contents.{is_cached}
 use Rattle.micro_sketch.specs.Sketch.{Sketch, exec, same_bool, can_find, found_words, cached, missed, go_on}

@@ -17,7 +17,7 @@ use Rattle.image_facts.specs.Places.{Places, words_with}
 use Rattle.image_facts.specs.Says as says
 use Rattle.image_facts.specs.Says.{Says, SaysAll, SaysLinked, IsCode, method_words, handler_words}
 use Rattle.image_facts.specs.Laws.{FixedWordsLie, ListsGoOn, LieThrough, RangesAreRead}
-use Rattle.memory_timing.specs.Port.{padded}
+use Rattle.machine_memory.specs.Timing.Port.{padded}
 use Rattle.machine_stands.specs.StandsFor.{StandsFor, limits_of}
 use Rattle.machine_stands.specs.Fixed.{FixedWordsAreRead}
 use Rattle.call_steps.specs.Coming.{IsRead, MethodsAreRead}

@@ -7,8 +7,8 @@ use Rattle.std.proofs.lemmas.Bool.Decides.{nat_tests}
 use Rattle.std.proofs.lemmas.List.{length-reverse}
 use Rattle.micro_sketch.proofs.Frames.{reverse_aux-both}
 use mathlib.Core.List.{reverse_aux, reverse_aux-eq}
-use Rattle.microcode_rom.specs.declared.TheConstants.{RAISE}
-use Rattle.microcode_rom.specs.declared.addresses.TheConstants.{HANDLER_FOUND, DROP_FRAME, END}
+use Rattle.microcode.specs.declared.TheConstants.{RAISE}
+use Rattle.microcode.specs.declared.addresses.TheConstants.{HANDLER_FOUND, DROP_FRAME, END}
 use Rattle.jop_core.specs.declared.halt.Halt.TheVariants.{Running}
 use Rattle.micro_sketch.specs.Sketch.{Sketch, exec, same_bool, inside}
 use Rattle.micro_sketch.specs.Stands.{Env, Shaped, Reaches}

@@ -1,8 +1,8 @@
 -- The parts of the raise routine, by computing on the sketch.
 use Rattle.std.proofs.Common.{◌≡◌, ℕ, suc, ◌+◌, ◌-◌, ◌*◌, ◌/◌, ◌%◌, ◌^◌, ◌==◌, ◌&&◌, Bool, true, false, nat_lt, if◌then◌else◌, List, [], ◌∷◌, bit_and, refl}
 use Rattle.std.specs.Prelude.{slice_index}
-use Rattle.microcode_rom.specs.declared.TheConstants.{RAISE}
-use Rattle.microcode_rom.specs.declared.addresses.TheConstants.{HANDLER_TURN, HANDLER_FOUND, DROP_FRAME, END}
+use Rattle.microcode.specs.declared.TheConstants.{RAISE}
+use Rattle.microcode.specs.declared.addresses.TheConstants.{HANDLER_TURN, HANDLER_FOUND, DROP_FRAME, END}
 use Rattle.method_cache.specs.Contents.{is_cached}
 use Rattle.micro_flow.specs.Walk.{used}
 use Rattle.jop_core.specs.declared.halt.Halt.TheVariants.{Uncaught}

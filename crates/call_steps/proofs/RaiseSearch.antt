@@ -4,7 +4,7 @@ use Rattle.std.specs.Prelude.{slice_index}
 use Rattle.std.proofs.Math.Nat.{mod-eq_of_lt}
 use Rattle.std.proofs.lemmas.Nat.{and_mask}
 use Rattle.std.proofs.lemmas.Bool.Decides.{nat_tests}
-use Rattle.microcode_rom.specs.declared.addresses.TheConstants.{HANDLER_FOUND, DROP_FRAME, END}
+use Rattle.microcode.specs.declared.addresses.TheConstants.{HANDLER_FOUND, DROP_FRAME, END}
 use Rattle.jop_core.specs.Operations.{number_of, signed_lt}
 use Rattle.micro_sketch.specs.Sketch.{Sketch, same_bool}
 use Rattle.micro_sketch.specs.Stands.{Env, Shaped, Reaches}

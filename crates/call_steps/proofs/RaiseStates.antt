@@ -6,9 +6,9 @@ use Rattle.std.proofs.lemmas.List.{get_or-drop, length-reverse, reverse-append, 
 use Rattle.std.proofs.lemmas.List.Sums.{sum_by-cons}
 use Rattle.lists.proofs.Lemmas.{holds_at, onto_some, some_is, some_same}
 use Rattle.base.specs.Packed.{words_of_bytes}
-use Rattle.stack_cache.specs.Size.{IsSize}
+use Rattle.machine_memory.specs.Stack.Size.{IsSize}
 use Rattle.method_cache.specs.Contents.{Cache, is_cached, loaded}
-use Rattle.microcode_rom.specs.declared.addresses.TheConstants.{HANDLER_FOUND, END}
+use Rattle.microcode.specs.declared.addresses.TheConstants.{HANDLER_FOUND, END}
 use Rattle.micro_flow.specs.declared.CostParams.{CostParams}
 use Rattle.micro_flow.specs.Walk.{turns_at}
 use Rattle.opcodes.specs.declared.instruction.Instr.{Instr}

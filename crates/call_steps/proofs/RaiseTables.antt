@@ -12,7 +12,7 @@ use Rattle.opcodes.specs.Instruction.{decoded}
 use Rattle.opcodes.specs.Start.{IsStart}
 use Rattle.base.specs.Packed.{words_of_bytes}
 use Rattle.jop_core.specs.State as machine
-use Rattle.memory_timing.specs.Port.{padded}
+use Rattle.machine_memory.specs.Timing.Port.{padded}
 use Rattle.bytecode_model.specs.Lists.{onto, index_of}
 use Rattle.bytecode_model.specs.Types.{Kind, OfClass, OfNumbers, OfReferences, same_kind}
 use Rattle.bytecode_model.specs.State.{Object, State}

@@ -1,7 +1,7 @@
 -- The parts of the microcode of the returns, by computing on the sketch.
 use Rattle.std.proofs.Common.{◌≡◌, ℕ, suc, ◌+◌, ◌-◌, ◌*◌, ◌/◌, ◌%◌, ◌^◌, ◌==◌, ◌&&◌, Bool, true, false, List, [], ◌∷◌, bit_and, if◌then◌else◌, refl}
 use Rattle.std.specs.Prelude.{slice_index}
-use Rattle.microcode_rom.specs.declared.addresses.TheConstants.{RETURN, IRETURN, LRETURN}
+use Rattle.microcode.specs.declared.addresses.TheConstants.{RETURN, IRETURN, LRETURN}
 use Rattle.jop_core.specs.Operations.{code_words}
 use Rattle.method_cache.specs.Contents.{is_cached}
 use Rattle.micro_sketch.specs.Sketch.{Sketch, exec, same_bool, inside, can_find, found_words, cached, missed, go_on}

@@ -4,7 +4,7 @@ use Rattle.std.specs.Prelude.{slice_index, IsSomeAnd}
 use Rattle.std.proofs.lemmas.List.{get_or-drop}
 use Rattle.std.proofs.lemmas.List.Sums.{sum_by-cons}
 use Rattle.lists.proofs.Lemmas.{holds_at}
-use Rattle.stack_cache.specs.Size.{IsSize}
+use Rattle.machine_memory.specs.Stack.Size.{IsSize}
 use Rattle.method_cache.specs.Contents.{Cache, is_cached, loaded}
 use Rattle.micro_flow.specs.declared.CostParams.{CostParams}
 use Rattle.opcodes.specs.Target.{WholeIsWithin}

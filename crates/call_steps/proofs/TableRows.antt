@@ -1,8 +1,8 @@
 -- The parts of the microcode of calls by a receiver, by computing on the sketch.
 use Rattle.std.proofs.Common.{◌≡◌, ℕ, suc, ◌+◌, ◌*◌, ◌/◌, ◌%◌, ◌^◌, ◌==◌, ◌&&◌, Bool, true, false, List, [], ◌∷◌, bit_and, refl}
 use Rattle.std.specs.Prelude.{slice_index}
-use Rattle.microcode_rom.specs.declared.TheConstants.{RAISE}
-use Rattle.microcode_rom.specs.declared.addresses.TheConstants.{INVOKEVIRTUAL, INVOKESPECIAL, INVOKEINTERFACE, INVOKE}
+use Rattle.microcode.specs.declared.TheConstants.{RAISE}
+use Rattle.microcode.specs.declared.addresses.TheConstants.{INVOKEVIRTUAL, INVOKESPECIAL, INVOKEINTERFACE, INVOKE}
 use Rattle.micro_sketch.specs.Sketch.{Sketch, exec, abyte, same_bool}
 use Rattle.micro_sketch.specs.Operand.{past}
 use Rattle.call_steps.specs.Tables.{TableCall, Invokevirtual, Invokespecial, Invokeinterface}

@@ -6,7 +6,7 @@ use Rattle.std.proofs.Math.Nat.{mod-eq_of_lt}
 use Rattle.std.proofs.lemmas.Option.{none-some}
 use Rattle.std.proofs.lemmas.Bool.Decides.{nat_tests}
 use Rattle.std.proofs.lemmas.List.{reverse-append, get_or-drop}
-use Rattle.stack_cache.specs.Size.{IsSize}
+use Rattle.machine_memory.specs.Stack.Size.{IsSize}
 use Rattle.std.proofs.lemmas.List.Sums.{sum_by-cons, sum_by-append}
 use Rattle.machine_stands.proofs.Seeing.{parts_same}
 use Rattle.machine_stands.proofs.Defined.{class_is, object_at, on_defined}

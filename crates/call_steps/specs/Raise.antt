@@ -1,8 +1,8 @@
 -- What a step of the raise routine makes of the words of the top frame (JVM Specification SE 8, 2.10 and 4.7.3).
 use Rattle.std.specs.Prelude.{ℕ, ◌≡◌, ◌+◌, ◌-◌, ◌*◌, ◌/◌, ◌%◌, ◌^◌, ◌<◌, ◌≤◌, ◌==◌, ◌&&◌, ◌||◌, Bool, true, false, nat_lt, nat_le, if◌then◌else◌, List, []}
 use Rattle.std.specs.Prelude.{◌∷◌, ◌++◌, length, reverse, drop, Option, Some, None, slice_index}
-use Rattle.microcode_rom.specs.declared.TheConstants.{RAISE}
-use Rattle.microcode_rom.specs.declared.addresses.TheConstants.{HANDLER_FOUND, END}
+use Rattle.microcode.specs.declared.TheConstants.{RAISE}
+use Rattle.microcode.specs.declared.addresses.TheConstants.{HANDLER_FOUND, END}
 use Rattle.jop_core.specs.declared.halt.Halt.TheVariants.{Running, Uncaught}
 use Rattle.jop_core.specs.declared.places.TheConstants.{METHOD, FRAME_SUM, RAISED, STACK}
 use Rattle.micro_sketch.specs.Sketch.{Sketch, can_find}

@@ -6,7 +6,7 @@ use Rattle.section_check.specs.Placing.{IsMisplaced}
 use Rattle.section_check.specs.Conditions.{IsSectionAnswer}
 use Rattle.section_check.specs.declared.section.SectionFault.{SectionFault}
 use Rattle.section_check.specs.declared.section.SectionFault.TheVariants as faults
-use Rattle.bound_cert.specs.declared.cert.CertSection.{CertSection}
+use Rattle.certificates.specs.declared.cert.CertSection.{CertSection}
 use Rattle.bytecode_model.specs.Program.{Program, body_of}
 use Rattle.method_flow.specs.Keeping.{BoundOf}
 use Rattle.method_flow.specs.declared.timing.Timing.{Timing}

@@ -14,7 +14,7 @@ use Rattle.method_flow.specs.Calls.{IsTarget}
 use Rattle.method_flow.specs.Flow.{Flow, Coded, IsCoded, IsCodedOf, IsFlow, IsFlowOf, targets_of_call}
 use Rattle.method_flow.specs.Kinds.{RowsAreOfTheirKinds}
 use Rattle.node_costs.specs.Costs.{AreOwnCosts}
-use Rattle.bound_cert.specs.declared.cert.CertSection.{CertSection}
+use Rattle.certificates.specs.declared.cert.CertSection.{CertSection}
 use Rattle.bound_rules.specs.Costs.{greatest_of}
 use Rattle.bound_rules.specs.Told.{Valued, TargetValues, within_limit, most_cycles, is_without_loads}
 use Rattle.cert_checker.specs.Setting.{CheckSetting, IsCheckSetting}

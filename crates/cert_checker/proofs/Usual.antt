@@ -5,8 +5,8 @@ use Rattle.std.proofs.lemmas.List.Elements.{All-get_or}
 use Rattle.std.specs.List.Sorted.{IsStrictlyIncreasing}
 use Rattle.lists.specs.Members.{rising_pair}
 use Rattle.section_check.specs.Section.{CertifiedLoop, HeadersRise}
-use Rattle.bound_cert.specs.declared.cert.CertSection.{CertSection}
-use Rattle.bound_cert.specs.Certificate.{Certificate, IsInGrammar, IsLoopInText, IsSectionInText}
+use Rattle.certificates.specs.declared.cert.CertSection.{CertSection}
+use Rattle.certificates.specs.Certificate.{Certificate, IsInGrammar, IsLoopInText, IsSectionInText}
 use Rattle.cert_checker.specs.Section.{IsUsual}
 
 headers_rise : (ls : List CertifiedLoop) → IsStrictlyIncreasing (map (λ l. l.header) ls) → HeadersRise ls

@@ -1,11 +1,11 @@
 -- How the answer of a section's check follows from those of its parts.
 use Rattle.std.specs.Prelude.{◌≡◌, ℕ, ◌≤◌, List, [], ◌∷◌, ◌++◌, Option, Some, None, Result, Ok, Err}
-use Rattle.loop_bounds.specs.Bounds.{LoopBound}
+use Rattle.bound_texts.specs.Loops.Bounds.{LoopBound}
 use Rattle.section_check.specs.Least.{lesser_of}
 use Rattle.section_check.specs.declared.section.SectionFault.{SectionFault}
 use Rattle.section_check.specs.declared.section.SectionFault.TheVariants as faults
-use Rattle.bound_cert.specs.declared.cert.CertSection.{CertSection}
-use Rattle.bound_cert.specs.Certificate.{Certificate}
+use Rattle.certificates.specs.declared.cert.CertSection.{CertSection}
+use Rattle.certificates.specs.Certificate.{Certificate}
 use Rattle.bytecode_model.specs.Program.{Program}
 use Rattle.method_flow.specs.Flow.{Flow, IsFlowOf}
 use Rattle.method_flow.specs.Keeping.{BoundOf}

@@ -6,7 +6,7 @@ use Rattle.loop_nest.specs.Digraph.{Digraph, Edge}
 use Rattle.section_check.specs.Least.{IsLeast}
 use Rattle.section_check.specs.Placing.{IsInLoop}
 use Rattle.section_check.specs.Section.{Certified, listed}
-use Rattle.bound_cert.specs.declared.cert.CertSection.{CertSection}
+use Rattle.certificates.specs.declared.cert.CertSection.{CertSection}
 use Rattle.bytecode_model.specs.Program.{Program}
 use Rattle.method_flow.specs.Nodes.{Node, number_of}
 use Rattle.method_flow.specs.Graphs.{IsGraphBy}

@@ -4,8 +4,8 @@ use Rattle.std.specs.List.Sorted.{IsStrictlyIncreasing}
 use Rattle.section_check.specs.Section.{Certified, listed, ArePotentials, MembersRise, HeadersRise}
 use Rattle.section_check.specs.Conditions.{IsSectionAnswer}
 use Rattle.section_check.specs.declared.section.SectionFault.{SectionFault}
-use Rattle.bound_cert.specs.declared.cert.CertSection.{CertSection}
-use Rattle.bound_cert.specs.Certificate.{Certificate}
+use Rattle.certificates.specs.declared.cert.CertSection.{CertSection}
+use Rattle.certificates.specs.Certificate.{Certificate}
 use Rattle.bytecode_model.specs.Program.{Program, body_of}
 use Rattle.method_flow.specs.Flow.{IsFlowOf}
 use Rattle.method_flow.specs.Keeping.{BoundOf}

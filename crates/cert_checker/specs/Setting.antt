@@ -1,6 +1,6 @@
 -- What is known of a program before the sections of a certificate are checked, and of the sections that were checked.
 use Rattle.std.specs.Prelude.{◌≡◌, ℕ, ◌<◌, ◌≤◌, ◌^◌, Bool, true, false, List, length, Option, Some, None, IfSome, slice_get, slice_set}
-use Rattle.loop_bounds.specs.Bounds.{LoopBound}
+use Rattle.bound_texts.specs.Loops.Bounds.{LoopBound}
 use Rattle.bytecode_model.specs.Program.{Program}
 use Rattle.method_flow.specs.Flow.{Flow, IsFlowOf}
 use Rattle.method_flow.specs.declared.timing.Timing.{Timing}

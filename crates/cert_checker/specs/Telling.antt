@@ -4,7 +4,7 @@ use Rattle.std.specs.Prelude.{slice_index_or, unwrap_or}
 use Rattle.std.specs.Option.{option_or}
 use Rattle.section_check.specs.Bounded.{holds}
 use Rattle.section_check.specs.Least.{IsLeast}
-use Rattle.bound_cert.specs.declared.cert.CertSection.{CertSection}
+use Rattle.certificates.specs.declared.cert.CertSection.{CertSection}
 use Rattle.method_flow.specs.declared.flow.Call.{Call}
 use Rattle.method_flow.specs.Flow.{Coded, Flow, targets_of_call}
 use Rattle.node_costs.specs.Costs.{method_load}

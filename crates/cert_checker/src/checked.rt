@@ -3,8 +3,8 @@ ghost use Rattle.std.specs.Prelude.{◌≡◌};
 ghost use Rattle.node_costs.specs.Costs.{bounds_of};
 ghost use Rattle.cert_checker.specs.Answer.{Meets};
 
-use bound_cert::Cert;
-use loop_bounds::Bounds;
+use bound_texts::loops::Bounds;
+use certificates::Cert;
 use method_flow::{FlowProgram, Timing};
 use std::marker::Model;
 

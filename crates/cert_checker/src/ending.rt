@@ -8,8 +8,8 @@ ghost use Rattle.cert_checker.specs.Section.{LastFailsFor, LastMeetsFor};
 use super::task::Task;
 use super::telling::full;
 use super::values::Values;
-use bound_cert::Cert;
 use bound_rules::CheckFault;
+use certificates::Cert;
 use node_costs::printed;
 
 /// Whether the last line is what is printed where the root's number with all loads is this, and a certificate can hold that.

@@ -3,7 +3,7 @@
 #![tactic(auto)]
 
 ghost use Rattle.std.specs.Prelude.{◌≡◌, ◌<◌, IfOk, IfErr};
-ghost use Rattle.bound_cert.specs.Certificate.{IsInGrammar};
+ghost use Rattle.certificates.specs.Certificate.{IsInGrammar};
 ghost use Rattle.node_costs.specs.Costs.{bounds_of};
 ghost use Rattle.cert_checker.specs.Answer.{HasCheckWaits, Meets, Refuses};
 
@@ -21,11 +21,11 @@ mod task;
 mod telling;
 mod values;
 
-use bound_cert::Cert;
 pub use bound_rules::CheckFault;
+use bound_texts::loops::Bounds;
+use certificates::Cert;
 pub use checked::Checked;
 use ending::check_last;
-use loop_bounds::Bounds;
 use method_flow::{FlowProgram, Timing};
 use sections::check_sections;
 use std::alloc::Global;

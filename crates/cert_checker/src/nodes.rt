@@ -8,7 +8,7 @@ ghost use Rattle.flow_graph.specs.Reach.{flag_at};
 ghost use Rattle.cert_checker.specs.Prepared.{AreComeTo, IsUnflagged};
 
 use base::NoMemory;
-use bound_cert::{CertLoop, Section};
+use certificates::{CertLoop, Section};
 use loop_nest::Graph;
 pub use section_check::placing::lesser;
 use std::alloc::Global;

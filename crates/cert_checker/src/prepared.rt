@@ -13,7 +13,7 @@ use super::task::Task;
 use super::telling::{Teller, regions};
 use super::values::Values;
 use base::NoMemory;
-use bound_cert::CertSection;
+use certificates::CertSection;
 use flow_graph::graph_where;
 use loop_nest::Graph;
 use method_flow::{Call, FlowMethod};

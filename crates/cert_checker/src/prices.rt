@@ -11,8 +11,8 @@ ghost use Rattle.cert_checker.specs.Setting.{IsRegionFee};
 
 use super::task::Task;
 use base::NoMemory;
-use bound_cert::{CertLoop, CertSection};
 use call_regions::{Region, loop_region};
+use certificates::{CertLoop, CertSection};
 use node_costs::loads;
 use std::alloc::Global;
 

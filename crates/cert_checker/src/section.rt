@@ -3,7 +3,7 @@ ghost use Rattle.std.specs.Prelude.{◌≡◌, ◌<◌, ℕ, List, IfOk, IfErr, 
 ghost use Rattle.bytecode_model.specs.Program.{Program};
 ghost use Rattle.method_flow.specs.Flow.{IsFlowOf};
 ghost use Rattle.section_check.specs.Least.{IsLeast};
-ghost use Rattle.bound_cert.specs.Certificate.{IsSectionInText};
+ghost use Rattle.certificates.specs.Certificate.{IsSectionInText};
 ghost use Rattle.node_costs.specs.Costs.{bounds_of};
 ghost use Rattle.cert_checker.specs.Section.{AnswersFor, FailsFor, IsUsual, MeetsFor, PreparedFails, PreparedMeets, IsWrongBeside};
 
@@ -14,8 +14,8 @@ use super::prices::{fees, loop_bounds, unbounded};
 use super::task::Task;
 use super::values::Values;
 use base::NoMemory;
-use bound_cert::CertSection;
 use bound_rules::CheckFault;
+use certificates::CertSection;
 use section_check::section::SectionFault;
 use section_index::check_with_index;
 use std::alloc::Global;

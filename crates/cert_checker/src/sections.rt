@@ -5,8 +5,8 @@ ghost use Rattle.cert_checker.specs.Section.{AddsSection, AllMeetFor, FailsFor, 
 use super::section::check_section_of;
 use super::task::Task;
 use super::values::Values;
-use bound_cert::CertSection;
 use bound_rules::CheckFault;
+use certificates::CertSection;
 use std::alloc::Global;
 
 /// Checks a section behind those whose values these are, and adds its value.

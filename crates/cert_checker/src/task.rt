@@ -6,8 +6,8 @@ ghost use Rattle.node_costs.specs.Costs.{bounds_of};
 ghost use Rattle.cert_checker.specs.Setting.{CheckSetting, IsFit, AreFits, IsTiming};
 
 use base::NoMemory;
+use bound_texts::loops::Bounds;
 use call_regions::{Region, region};
-use loop_bounds::Bounds;
 use method_flow::{FlowMethod, FlowProgram, Timing};
 use node_costs::{bound_at, loads};
 use std::alloc::Global;

@@ -1,6 +1,6 @@
 //! What the invokes of a section are told of the methods that they may run.
 ghost use Rattle.std.specs.Prelude.{◌≡◌, ◌*◌, ◌+◌, ◌<◌, length, IfOk, Some};
-ghost use Rattle.bound_cert.specs.Certificate.{is_inside};
+ghost use Rattle.certificates.specs.Certificate.{is_inside};
 ghost use Rattle.bound_rules.specs.Told.{is_without_loads, within_limit, with_cycles};
 ghost use Rattle.cert_checker.specs.Setting.{IsWithinBits, full_of};
 ghost use Rattle.cert_checker.specs.Telling.{AreFlagged, AreRegions, IsTeller, called_by, told};
@@ -8,7 +8,7 @@ ghost use Rattle.cert_checker.specs.Telling.{AreFlagged, AreRegions, IsTeller, c
 use super::task::{Fit, Task};
 use super::values::{Values, is_inside};
 use base::NoMemory;
-use bound_cert::{CertLoop, CertSection};
+use certificates::{CertLoop, CertSection};
 use node_costs::load;
 use std::alloc::Global;
 

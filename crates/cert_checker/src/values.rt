@@ -1,10 +1,10 @@
 //! The values of the sections that were checked.
 ghost use Rattle.std.specs.Prelude.{◌≡◌, ◌<◌, IfOk, None, length, replicate};
-ghost use Rattle.bound_cert.specs.Certificate.{is_inside};
+ghost use Rattle.certificates.specs.Certificate.{is_inside};
 ghost use Rattle.cert_checker.specs.Setting.{with_first};
 
 use base::NoMemory;
-use bound_cert::{CertSection, SectionKind};
+use certificates::{CertSection, SectionKind};
 use std::alloc::Global;
 use std::marker::Model;
 

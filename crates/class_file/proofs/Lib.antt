@@ -3,3 +3,4 @@ pub mod ManyLemmas
 pub mod PartLaws
 pub mod MemberLaws
 pub mod CheckLemmas
+pub mod WritingLemmas

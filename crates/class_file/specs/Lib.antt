@@ -4,3 +4,4 @@ pub mod Faults
 pub mod InsideReading
 pub mod Parts
 pub mod InsideGrammar
+pub mod Writing

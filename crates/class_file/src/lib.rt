@@ -9,6 +9,7 @@ mod parts;
 mod reader;
 mod structure;
 mod test;
+pub mod writing;
 
 pub use base::Items;
 pub use class_pool::{Attribute, Body, ClassFile, Code, Member};

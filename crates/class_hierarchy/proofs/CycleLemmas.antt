@@ -11,9 +11,9 @@ use Rattle.lists.specs.Numbers.{is_among, reached}
 use Rattle.lists.proofs.Reached.{in_append, in_flat}
 use Rattle.lists.proofs.Among.{among_at}
 use Rattle.class_lookup.specs.Hierarchy.{direct_supertypes, supertypes, extends, is_on_a_cycle, IsAcyclic}
-use Rattle.upward_sets.specs.Numbers.{with_number}
-use Rattle.upward_sets.proofs.Marks.{any_flip}
-use Rattle.upward_sets.proofs.Ranks.{place, place_among, listed, listed_at, listed_past}
+use Rattle.number_sets.specs.Numbers.{with_number}
+use Rattle.number_sets.proofs.Marks.{any_flip}
+use Rattle.number_sets.proofs.Ranks.{place, place_among, listed, listed_at, listed_past}
 use Rattle.class_hierarchy.specs.Cycles.{Grows}
 use Rattle.class_hierarchy.proofs.Closure.{R, self_in, step_in, last_step, count_below, count_few, count_above, count_some, in_range, enough}
 use Rattle.class_hierarchy.proofs.Ranks.{direct_below, nothing_direct}

@@ -9,7 +9,7 @@ use Rattle.class_pool.specs.declared.class.ClassFile.{ClassFile}
 use Rattle.class_lookup.specs.Lists.{first_some}
 use Rattle.class_lookup.specs.Hierarchy.{superclass, superclasses, superinterfaces, with_superinterfaces, all_superinterfaces, is_among, IsAcyclic}
 use Rattle.class_hierarchy.proofs.Directly.{upward_step, super_list, super_is_above, interface_is_above}
-use Rattle.upward_sets.specs.Numbers.{entry, IsSameSearch, HasAll}
+use Rattle.number_sets.specs.Numbers.{entry, IsSameSearch, HasAll}
 use Rattle.class_hierarchy.specs.TopDown.{IsTopDown}
 use Rattle.lists.proofs.Finding.{same_search, same_append, same_flat}
 use Rattle.class_hierarchy.proofs.Ranks.{direct_below}

@@ -12,7 +12,7 @@ use Rattle.class_lookup.specs.Lists.{first_some}
 use Rattle.class_lookup.specs.Parts.{Signature, signature_of, same_signature, is_init}
 use Rattle.class_lookup.specs.Hierarchy.{superclass, superclasses, supertypes, with_superinterfaces, all_superinterfaces, is_interface, is_among, is_subclass}
 use Rattle.class_lookup.specs.Lookup.{Place, declared, declared_in, declared_field, declared_method, find_field, find_method, method_search}
-use Rattle.upward_sets.specs.Numbers.{IsSameSearch}
+use Rattle.number_sets.specs.Numbers.{IsSameSearch}
 use Rattle.class_lookup.specs.Laws.{MembersHaveSymbols}
 use Rattle.class_lookup.specs.Symbols.{symbol}
 use Rattle.class_hierarchy.specs.Tables.{AreAbove}

@@ -5,9 +5,9 @@ use Rattle.std.specs.Option.{option_map, option_or}
 use Rattle.std.proofs.lemmas.Bool.{cases_lt, eq-eqb, false≢true, and_from, or_left, or_right}
 use Rattle.std.proofs.lemmas.Grind.{take_at_read}
 use Rattle.std.proofs.lemmas.Option.{slice_get_cases}
-use Rattle.bit_rows.specs.Bits.{has, is_in, is_pair}
-use Rattle.bit_rows.specs.Table.{BitTable, columns}
-use Rattle.bit_rows.specs.declared.rows.Row.{Row}
+use Rattle.number_sets.specs.Bits.Bits.{has, is_in, is_pair}
+use Rattle.number_sets.specs.Bits.Table.{BitTable, columns}
+use Rattle.number_sets.specs.declared.bits.rows.Row.{Row}
 use Rattle.class_pool.specs.declared.class.Member.{Member}
 use Rattle.class_pool.specs.declared.class.ClassFile.{ClassFile}
 use Rattle.lists.specs.Lists.{onto, index_of}

@@ -15,7 +15,7 @@ use Rattle.class_lookup.specs.Hierarchy.{find_class, superclass, superinterfaces
 use Rattle.lists.proofs.Reached.{in_append}
 use Rattle.lists.proofs.Among.{in_option}
 use Rattle.class_hierarchy.specs.TopDown.{IsTopDown}
-use Rattle.upward_sets.specs.Numbers.{entry, IsPeeled, IsStuck, HasAll, HasRanks}
+use Rattle.number_sets.specs.Numbers.{entry, IsPeeled, IsStuck, HasAll, HasRanks}
 
 -- ---- where all are taken, and where some aren't
 

@@ -8,7 +8,7 @@ use Rattle.class_lookup.specs.Parts.{superinterface_names}
 use Rattle.class_lookup.specs.Hierarchy.{find_class, superinterfaces, direct_supertypes, supertypes, with_superinterfaces, reached, is_among}
 use Rattle.lists.proofs.Reached.{flat_same}
 use Rattle.class_hierarchy.proofs.Directly.{interface_is_above}
-use Rattle.upward_sets.specs.Numbers.{entry, IsSameSearch, IsPeeled, HasAll}
+use Rattle.number_sets.specs.Numbers.{entry, IsSameSearch, IsPeeled, HasAll}
 use Rattle.class_hierarchy.specs.TopDown.{IsTopDown}
 use Rattle.lists.proofs.Tables.{same_along}
 

@@ -1,8 +1,8 @@
 -- What is found where no class declares a member of a name and a descriptor.
 use Rattle.std.proofs.Common.{◌≡◌, ℕ, false, List, [], ◌∷◌, map, Option, Some, None, refl, sym, ap, ◌∙◌}
 use Rattle.std.specs.List.{filter_map, cons_option}
-use Rattle.bit_rows.specs.Bits.{has}
-use Rattle.bit_rows.specs.Table.{BitTable}
+use Rattle.number_sets.specs.Bits.Bits.{has}
+use Rattle.number_sets.specs.Bits.Table.{BitTable}
 use Rattle.class_pool.specs.declared.class.Member.{Member}
 use Rattle.class_pool.specs.declared.class.ClassFile.{ClassFile}
 use Rattle.lists.specs.Lists.{onto, first_some}

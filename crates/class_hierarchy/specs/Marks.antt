@@ -1,8 +1,8 @@
 -- Rows of bits, one bit a class, by the symbols of the names and descriptors of members.
 use Rattle.std.specs.Prelude.{◌≡◌, ℕ, true, false, List, Some, None, is_some}
-use Rattle.bit_rows.specs.Bits.{has, is_in}
-use Rattle.bit_rows.specs.Table.{BitTable, columns}
-use Rattle.bit_rows.specs.declared.rows.Row.{Row}
+use Rattle.number_sets.specs.Bits.Bits.{has, is_in}
+use Rattle.number_sets.specs.Bits.Table.{BitTable, columns}
+use Rattle.number_sets.specs.declared.bits.rows.Row.{Row}
 use Rattle.class_pool.specs.declared.class.Member.{Member}
 use Rattle.class_pool.specs.declared.class.ClassFile.{ClassFile}
 use Rattle.class_lookup.specs.Parts.{Signature}

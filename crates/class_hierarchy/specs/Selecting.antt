@@ -2,7 +2,7 @@
 use Rattle.std.specs.Prelude.{◌≡◌, ℕ, ◌<◌, Bool, true, false, ◌&&◌, ◌||◌, List, [], length, Option, Some, None, is_some, find, slice_index_or, IsTrue}
 use Rattle.std.specs.List.{filter_map, list_any}
 use Rattle.std.specs.Option.{option_map_or}
-use Rattle.upward_sets.specs.Numbers.{entry}
+use Rattle.number_sets.specs.Numbers.{entry}
 use Rattle.class_pool.specs.declared.class.ClassFile.{ClassFile}
 use Rattle.class_lookup.specs.Parts.{is_public, is_protected, is_package_private}
 use Rattle.class_lookup.specs.Hierarchy.{superclass, superclasses, IsAcyclic}

@@ -3,7 +3,7 @@ use Rattle.std.specs.Prelude.{◌≡◌, ℕ, ◌<◌, List, length}
 use Rattle.class_pool.specs.declared.class.ClassFile.{ClassFile}
 use Rattle.class_lookup.specs.Hierarchy.{supertypes, superclasses, with_superinterfaces, all_superinterfaces}
 use Rattle.class_hierarchy.specs.declared.above.Above.{Above}
-use Rattle.upward_sets.specs.Numbers.{entry, IsSameSearch}
+use Rattle.number_sets.specs.Numbers.{entry, IsSameSearch}
 
 -- for each class a list in which the same is found as in that of the definition; that of its superclasses is the definition's
 pub record AreAbove (cs : List ClassFile) (above : Above) : Type 0 where

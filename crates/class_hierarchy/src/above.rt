@@ -4,15 +4,15 @@ ghost use Rattle.std.specs.Prelude.{◌≡◌, ℕ, ◌<◌, ◌++◌, ◌∷◌
 ghost use Rattle.std.specs.Option.{option_map_or};
 ghost use Rattle.std.specs.List.{flat_map};
 ghost use Rattle.class_lookup.specs.Hierarchy.{superclass, superclasses, superinterfaces, with_superinterfaces, all_superinterfaces, IsAcyclic};
-ghost use Rattle.upward_sets.specs.Numbers.{entry, IsSameSearch, IsTransitive};
+ghost use Rattle.number_sets.specs.Numbers.{entry, IsSameSearch, IsTransitive};
 ghost use Rattle.class_hierarchy.specs.TopDown.{IsTopDown};
 ghost use Rattle.class_hierarchy.specs.Tables.{AreAbove};
 
 use crate::acyclic::{direct_of, top_down};
 use base::{Items, NoMemory};
 use class_lookup::Classes;
+use number_sets::{MarkedSet, NumberSet, empty_sets, upward_lists};
 use std::alloc::Global;
-use upward_sets::{MarkedSet, NumberSet, empty_sets, upward_lists};
 
 /// What stands above each class.
 #[derive(Drop)]

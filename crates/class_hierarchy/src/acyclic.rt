@@ -2,13 +2,13 @@
 
 ghost use Rattle.std.specs.Prelude.{◌≡◌, ℕ, ◌^◌, ◌<◌, ◌≤◌, length, IfOk};
 ghost use Rattle.class_lookup.specs.Hierarchy.{direct_supertypes, IsAcyclic};
-ghost use Rattle.upward_sets.specs.Numbers.{entry};
+ghost use Rattle.number_sets.specs.Numbers.{entry};
 ghost use Rattle.class_hierarchy.specs.TopDown.{IsTopDown};
 
 use base::{Items, NoMemory};
 use class_lookup::Classes;
+use number_sets::{NumberSet, order_of};
 use std::alloc::Global;
-use upward_sets::{NumberSet, order_of};
 
 /// What stands directly above a class: its direct superinterfaces in order, and then its direct superclass.
 fn supertypes_of(alloc: Global, classes: &Classes, class: u32) -> Result<Vec<u32>, NoMemory>

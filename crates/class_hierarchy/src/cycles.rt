@@ -4,14 +4,14 @@ ghost use Rattle.std.specs.Prelude.{◌≡◌, ℕ, ◌||◌, ◌<◌, ◌≤◌
 ghost use Rattle.std.specs.List.{find, range_with_len};
 ghost use Rattle.lists.specs.Numbers.{is_among};
 ghost use Rattle.class_lookup.specs.Hierarchy.{direct_supertypes, is_on_a_cycle, IsAcyclic};
-ghost use Rattle.upward_sets.specs.Numbers.{entry};
+ghost use Rattle.number_sets.specs.Numbers.{entry};
 ghost use Rattle.class_hierarchy.specs.Cycles.{Grows};
 
 use crate::acyclic::direct_of;
 use base::{Items, NoMemory};
 use class_lookup::Classes;
+use number_sets::{NumberSet, ranks_of};
 use std::alloc::Global;
-use upward_sets::{NumberSet, ranks_of};
 
 /// Adds those of the numbers that aren't among them behind the others.
 fn add_each(found: &mut NumberSet, numbers: &[u32]) -> Result<(), NoMemory>

@@ -3,7 +3,7 @@
 
 ghost use Rattle.std.specs.Prelude.{◌≡◌, ◌<◌, length, IsTrue};
 ghost use Rattle.class_lookup.specs.Hierarchy.{is_among};
-ghost use Rattle.upward_sets.specs.Numbers.{entry};
+ghost use Rattle.number_sets.specs.Numbers.{entry};
 ghost use Rattle.class_hierarchy.specs.Deciding.{is_overridable};
 ghost use Rattle.class_hierarchy.specs.Members.{HasSymbols};
 

@@ -7,7 +7,7 @@ ghost use Rattle.class_lookup.specs.Lists.{first_some};
 ghost use Rattle.class_lookup.specs.Lookup.{declared_method, find_field, find_method};
 ghost use Rattle.class_lookup.specs.Parts.{Signature, is_init};
 ghost use Rattle.class_lookup.specs.Selection.{select, is_of_superclass, special};
-ghost use Rattle.upward_sets.specs.Numbers.{IsSameSearch};
+ghost use Rattle.number_sets.specs.Numbers.{IsSameSearch};
 ghost use Rattle.class_lookup.specs.Symbols.{symbol};
 ghost use Rattle.class_hierarchy.specs.EachOnce.{each_once};
 
@@ -17,11 +17,11 @@ use crate::members::{first_field, first_method, named_at};
 use crate::receivers::{Resolved, places_for};
 use crate::selecting::{first_instance, first_overriding, first_public};
 use base::NoMemory;
-use bit_rows::BitRows;
 use class_lookup::laws::members_have_symbols;
 use class_lookup::parts::has_flags;
 use class_lookup::{Classes, Place};
 use descriptors::names::is_instance_initializer;
+use number_sets::bits::BitRows;
 use std::alloc::Global;
 use std::marker::Model;
 

@@ -1,8 +1,8 @@
 //! Which classes declare a field or a method of a name and a descriptor: a row of bits for each such pair, one bit a class.
 
 ghost use Rattle.std.specs.Prelude.{◌≡◌, ℕ, ◌<◌, ◌≤◌, true, length, slice_get, Some, is_some, IsTrue, IfOk, OnOk};
-ghost use Rattle.bit_rows.specs.Bits.{has};
-ghost use Rattle.bit_rows.specs.Table.{columns};
+ghost use Rattle.number_sets.specs.Bits.Bits.{has};
+ghost use Rattle.number_sets.specs.Bits.Table.{columns};
 ghost use Rattle.class_pool.specs.declared.class.ClassFile.{ClassFile};
 ghost use Rattle.class_lookup.specs.Lookup.{declared_in};
 ghost use Rattle.class_lookup.specs.Parts.{Signature};
@@ -10,9 +10,9 @@ ghost use Rattle.class_lookup.specs.Symbols.{symbol};
 ghost use Rattle.class_hierarchy.specs.Marks.{HasMore, AreMarked};
 
 use base::NoMemory;
-use bit_rows::BitRows;
 use class_lookup::Classes;
 use class_pool::Member;
+use number_sets::bits::BitRows;
 use std::alloc::Global;
 
 /// Marks a class in the rows of its members, of which these are some.

@@ -8,8 +8,8 @@ ghost use Rattle.class_lookup.specs.Parts.{Signature};
 ghost use Rattle.class_lookup.specs.Symbols.{symbol};
 ghost use Rattle.class_hierarchy.specs.Members.{declared_as, HasSymbols, IsNamedAt};
 
-use bit_rows::{BitRows, Row};
 use class_lookup::{Classes, Place, method_at};
+use number_sets::bits::{BitRows, Row};
 
 /// A method with the symbols of its name and of its descriptor.
 #[derive(Clone, Copy)]

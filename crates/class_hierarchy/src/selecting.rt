@@ -8,8 +8,8 @@ ghost use Rattle.class_hierarchy.specs.Members.{declared_as, HasSymbols};
 
 use crate::members::{Named, marked_as};
 use crate::methods::{is_instance, is_joining, is_open, is_public_instance};
-use bit_rows::BitRows;
 use class_lookup::{Classes, Place};
+use number_sets::bits::BitRows;
 
 /// The first public instance method of this one's name and descriptor that the classes of a list declare.
 pub(crate) fn first_public(

@@ -8,12 +8,12 @@ use Rattle.std.proofs.lemmas.List.{length-map, map_more, map-append}
 use Rattle.class_pool.specs.declared.class.ClassFile.{ClassFile}
 use Rattle.image_facts.specs.declared.method.CodedMethod.{CodedMethod}
 use Rattle.image_facts.specs.Methods.{IsMethodRecord}
-use Rattle.linked_methods.specs.Placed.{AreOnly}
+use Rattle.jopizer.specs.Methods.Placed.{AreOnly}
 use Rattle.class_lookup.specs.Lookup.{Place}
 use Rattle.program_tables.specs.Laws.{MethodsStandByNumber}
 use Rattle.program_tables.specs.Numbers.{methods_by_number, method_text}
 use Rattle.program_tables.specs.Resolved.{resolved, at_method}
-use Rattle.method_names.specs.Written.{written}
+use Rattle.name_laws.specs.Written.{written}
 use Rattle.image_words.specs.Regions.{places_of}
 use Rattle.bytecode_model.specs.Program.{body_of}
 use Rattle.commands.specs.declared.show.Show.{Show}

@@ -9,8 +9,8 @@ use Rattle.method_flow.specs.Flow.{IsFlowOf}
 use Rattle.node_costs.specs.Costs as table
 use Rattle.bound_rules.specs.declared.faults.BoundRefusal.{BoundRefusal}
 use Rattle.bound_causes.specs.declared.causes.Asked.{Asked}
-use Rattle.wcet.specs.declared.ending.MethodBound.TheVariants.{Printed}
-use Rattle.wcet.specs.Ending.{IsMethodBound}
+use Rattle.bound_finder.specs.declared.ending.MethodBound.TheVariants.{Printed}
+use Rattle.bound_finder.specs.Ending.{IsMethodBound}
 use Rattle.bound_report.specs.declared.reports.Report.{Report}
 use Rattle.bound_report.specs.Report.{IsReportOf}
 use Rattle.command_line.specs.declared.command.Settings.{Settings}

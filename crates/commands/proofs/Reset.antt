@@ -3,7 +3,7 @@ use Rattle.std.proofs.Common.{◌≡◌, ℕ, zero, suc, ◌<◌, ◌≤◌, tru
 use Rattle.std.specs.Prelude.{IfOk, Result, Ok, Err}
 use Rattle.std.specs.declared.option.Option.{Option}
 use Rattle.boundary.proofs.Starting.{boot_runs}
-use Rattle.memory_timing.specs.declared.Config.{Config}
+use Rattle.machine_memory.specs.declared.timing.Config.{Config}
 use Rattle.command_line.specs.declared.command.Settings.{Settings}
 use Rattle.method_cache.specs.Contents.{can_load, empty}
 use Rattle.image_file.specs.Bare.{BareContent, IsBareContent, spelled, return_code}

@@ -3,7 +3,7 @@ use Rattle.std.proofs.Common.{ℕ, ◌≤◌, List, Option, sym, subst}
 use Rattle.class_pool.specs.declared.class.ClassFile.{ClassFile}
 use Rattle.program_tables.specs.Resolved.{resolved}
 use Rattle.activations.specs.Warrant.{BoundsActivations}
-use Rattle.bound_sound.specs.Laws.{CertificatesAreSound}
+use Rattle.bound_laws.specs.Soundness.Laws.{CertificatesAreSound}
 use Rattle.command_line.specs.declared.command.Settings.{Settings}
 use Rattle.analysis_commands.specs.declared.check.Held.{Held}
 use Rattle.analysis_commands.specs.Analysis.{timing_of, bounds_of}

@@ -1,10 +1,10 @@
 -- A linked program that a machine holds.
 use Rattle.std.proofs.Common.{◌≡◌, ℕ, ◌-◌, ◌<◌, ◌≤◌, true, List, length, Option, Some, None, refl, sym, ◌∙◌, ap, subst, arith, inl, ⊎_elim, lt-ltb, le-leb}
 use Rattle.std.specs.Prelude.{IfSome, IsSomeAnd, IfOk, Result, Ok, Err}
-use Rattle.stack_cache.specs.Size.{IsSize}
+use Rattle.machine_memory.specs.Stack.Size.{IsSize}
 use Rattle.base.specs.Packed.{words_for}
 use Rattle.method_cache.specs.Contents.{empty, can_load}
-use Rattle.memory_timing.specs.declared.Config.{Config}
+use Rattle.machine_memory.specs.declared.timing.Config.{Config}
 use Rattle.jop_core.specs.Reset.{linked_reset}
 use Rattle.class_pool.specs.declared.class.ClassFile.{ClassFile}
 use Rattle.image_facts.specs.declared.method.CodedMethod.{CodedMethod}
@@ -20,7 +20,7 @@ use Rattle.bytecode_verifier.specs.Failure.{IsVerified}
 use Rattle.boundary.specs.declared.answer.Boundary.TheVariants.{Bytecode}
 use Rattle.boundary.specs.Linked.{IsHeld, IsHeldImage, BeginsEach}
 use Rattle.boundary.specs.Session.{Session, Begins}
-use Rattle.linked_methods.specs.Fitting.{code_blocks}
+use Rattle.jopizer.specs.Methods.Fitting.{code_blocks}
 use Rattle.boundary.specs.Start.{IsTold, VerifiedProgramsAreTold, BootTakesSixWords}
 use Rattle.commands.specs.Run.{Started}
 use Rattle.commands.specs.LinkedRun.{CanRun, linked_setting}

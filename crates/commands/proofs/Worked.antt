@@ -4,10 +4,10 @@ use Rattle.class_pool.specs.declared.class.ClassFile.{ClassFile}
 use Rattle.program_tables.specs.Resolved.{resolved}
 use Rattle.bytecode_model.specs.Program.{body_of}
 use Rattle.lists.proofs.Lemmas.{some_is, if_at}
-use Rattle.linked_methods.specs.Fitting.{code_blocks}
-use Rattle.loop_bounds.specs.declared.BoundsFault.TheVariants as faults
-use Rattle.loop_bounds.specs.Bounds.{LoopBound}
-use Rattle.bound_sound.specs.Laws.{CertificatesAreSound}
+use Rattle.jopizer.specs.Methods.Fitting.{code_blocks}
+use Rattle.bound_texts.specs.declared.loops.BoundsFault.TheVariants as faults
+use Rattle.bound_texts.specs.Loops.Bounds.{LoopBound}
+use Rattle.bound_laws.specs.Soundness.Laws.{CertificatesAreSound}
 use Rattle.command_line.specs.declared.command.Settings.{Settings}
 use Rattle.work_gen.specs.Work.{bounds_text}
 use Rattle.work_gen.specs.Bounds.{main_text, adder_bounds}

@@ -3,8 +3,8 @@ use Rattle.std.specs.Prelude.{◌≡◌, ℕ, ◌≤◌, ◌⊎◌, List, []}
 use Rattle.class_pool.specs.declared.class.ClassFile.{ClassFile}
 use Rattle.image_file.specs.Bare.{BareContent}
 use Rattle.program_tables.specs.Resolved.{resolved}
-use Rattle.loop_bounds.specs.Bounds.{LoopBound}
-use Rattle.loop_bounds.specs.Grammar.{IsRead}
+use Rattle.bound_texts.specs.Loops.Bounds.{LoopBound}
+use Rattle.bound_texts.specs.Loops.Grammar.{IsRead}
 use Rattle.command_line.specs.declared.command.Settings.{Settings}
 use Rattle.method_bounds.specs.Lines.{AreBoundLines}
 use Rattle.analysis_commands.specs.declared.analysis.AnalysisFault.{AnalysisFault}

@@ -1,7 +1,7 @@
 -- What `run` and `trace` do with the bytes of a file that don't begin as those of a linked image.
 use Rattle.std.specs.Prelude.{◌≡◌, ℕ, ◌<◌, ◌≤◌, ◌⊎◌, List, length}
 use Rattle.image_file.specs.Bare.{BareContent, IsBareFile}
-use Rattle.memory_timing.specs.declared.Config.{Config}
+use Rattle.machine_memory.specs.declared.timing.Config.{Config}
 use Rattle.method_cache.specs.Contents.{blocks_for}
 use Rattle.jop_core.specs.State as machine
 use Rattle.jop_core.specs.Reset.{words_for, bare_reset}

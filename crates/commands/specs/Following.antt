@@ -1,6 +1,6 @@
 -- The run of what was linked, with a follower of its boundaries.
 use Rattle.std.specs.Prelude.{◌≡◌, ℕ, List, All, Some}
-use Rattle.memory_timing.specs.declared.Config.{Config}
+use Rattle.machine_memory.specs.declared.timing.Config.{Config}
 use Rattle.device_traits.specs.Told.{Told}
 use Rattle.jop_core.specs.State as machine
 use Rattle.jop_core.specs.Reset.{linked_reset}

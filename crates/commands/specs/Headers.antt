@@ -1,8 +1,8 @@
 -- What `headers` finds of an image: its loops as a text of bounds, with the lines of their sources.
 use Rattle.std.specs.Prelude.{◌≡◌, ℕ, List, []}
 use Rattle.class_pool.specs.declared.class.ClassFile.{ClassFile}
-use Rattle.source_bounds.specs.Notes.{Note}
-use Rattle.source_bounds.specs.Grammar.{AreNotesRead}
+use Rattle.bound_texts.specs.Sources.Notes.{Note}
+use Rattle.bound_texts.specs.Sources.Grammar.{AreNotesRead}
 use Rattle.source_headers.specs.declared.fault.HeaderFault.{HeaderFault}
 use Rattle.source_headers.specs.declared.fault.HeaderFault.TheVariants as faults
 use Rattle.source_headers.specs.Files.{IsHeaderFile, IsHeaderFault, IsLinesFault}

@@ -5,7 +5,7 @@ use Rattle.device_traits.specs.declared.fault.DeviceFault.{DeviceFault}
 use Rattle.class_pool.specs.Utf8.{utf8_bytes}
 use Rattle.class_pool.specs.declared.class.ClassFile.{ClassFile}
 use Rattle.class_lookup.specs.Parts.{name_of}
-use Rattle.method_names.specs.Written.{written, written_name}
+use Rattle.name_laws.specs.Written.{written, written_name}
 use Rattle.image_file.specs.Linked as file
 use Rattle.image_file.specs.Linked.{LinkedContent}
 use Rattle.command_line.specs.declared.command.Settings.{Settings}

@@ -2,7 +2,7 @@
 use Rattle.std.specs.Prelude.{◌≡◌, ℕ, ◌<◌, ◌≤◌, None, List, length, Ok}
 use Rattle.std.specs.declared.result.Result.{Result}
 use Rattle.device_traits.specs.declared.fault.DeviceFault.{DeviceFault}
-use Rattle.memory_timing.specs.declared.Config.{Config}
+use Rattle.machine_memory.specs.declared.timing.Config.{Config}
 use Rattle.class_pool.specs.declared.class.ClassFile.{ClassFile}
 use Rattle.program_tables.specs.Resolved.{resolved}
 use Rattle.image_words.specs.Regions.{places_of}
@@ -13,7 +13,7 @@ use Rattle.program_resolution.specs.Linked.{linked_classes}
 use Rattle.boundary.specs.declared.runs.RunEnd.{RunEnd}
 use Rattle.boundary.specs.declared.runs.RunEnd.TheVariants.{Uncaught}
 use Rattle.boundary.specs.Setting.{Setting}
-use Rattle.linked_methods.specs.Fitting.{MethodFits}
+use Rattle.jopizer.specs.Methods.Fitting.{MethodFits}
 
 -- the program of the classes with the places of its image and the types that the verifier finds, and a machine of so many words
 abbrev pub linked_setting : List ClassFile → (chip memory : ℕ) → Setting

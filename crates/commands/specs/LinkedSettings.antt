@@ -1,11 +1,11 @@
 -- The run of what was linked, with settings.
 use Rattle.std.specs.Prelude.{◌≡◌, ℕ, ◌<◌, ◌≤◌, length}
-use Rattle.memory_timing.specs.declared.Config.{Config}
+use Rattle.machine_memory.specs.declared.timing.Config.{Config}
 use Rattle.jop_core.specs.Reset.{linked_reset}
 use Rattle.command_line.specs.declared.command.Settings.{Settings}
 use Rattle.program_tables.specs.Resolved.{resolved}
 use Rattle.jopizer.specs.Linked.{Parts}
-use Rattle.linked_methods.specs.Fitting.{MethodFits, IsFirst}
+use Rattle.jopizer.specs.Methods.Fitting.{MethodFits, IsFirst}
 use Rattle.commands.specs.declared.program_end.ProgramEnd.{ProgramEnd}
 use Rattle.commands.specs.declared.show.Show.{Show}
 use Rattle.commands.specs.Show.{linked_shown}

@@ -3,7 +3,7 @@ use Rattle.std.specs.Prelude.{◌≡◌, ℕ, ◌+◌, ◌<◌, ◌≤◌, ◌==
 use Rattle.std.specs.declared.option.Option.{Option}
 use Rattle.outside.specs.Outside.{Grew, Rose}
 use Rattle.outside.specs.Files.{FilesTold, files_told, OnlyWords, AreFiles, IsTooBigAt, FailsAt}
-use Rattle.method_names.specs.Written.{name_in}
+use Rattle.name_laws.specs.Written.{name_in}
 use Rattle.image_file.specs.Linked as file
 use Rattle.image_words.specs.Limits.{coded_methods}
 use Rattle.jopizer.specs.declared.refusal.LinkRefusal.{LinkRefusal}

@@ -6,7 +6,7 @@ use Rattle.outside.specs.Outside.{Rose, HasFileLength}
 use Rattle.commands.specs.declared.outcome.Refusal.TheVariants.{TooBig}
 use Rattle.commands.specs.declared.outcome.Ending.{Ending}
 use Rattle.commands.specs.declared.outcome.Ending.TheVariants.{Refused, ReadFault, NoMemory}
-use Rattle.memory_timing.specs.declared.Config.{Config}
+use Rattle.machine_memory.specs.declared.timing.Config.{Config}
 use Rattle.command_line.specs.declared.command.Settings.{Settings}
 
 -- why the file of a word wasn't read, what is told of it, and its counts of faults

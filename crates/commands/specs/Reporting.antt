@@ -3,8 +3,8 @@ use Rattle.std.specs.Prelude.{◌≡◌, ℕ, List, Option, Some, None, IfSome, 
 use Rattle.class_pool.specs.declared.class.ClassFile.{ClassFile}
 use Rattle.bytecode_model.specs.Program.{Program}
 use Rattle.program_tables.specs.Resolved.{resolved}
-use Rattle.loop_bounds.specs.Bounds.{LoopBound}
-use Rattle.loop_bounds.specs.Grammar.{IsRead}
+use Rattle.bound_texts.specs.Loops.Bounds.{LoopBound}
+use Rattle.bound_texts.specs.Loops.Grammar.{IsRead}
 use Rattle.method_flow.specs.Flow.{IsFlowOf}
 use Rattle.method_flow.specs.Keeping.{BoundOf}
 use Rattle.method_flow.specs.declared.timing.Timing.{Timing}
@@ -12,9 +12,9 @@ use Rattle.node_costs.specs.Costs as table
 use Rattle.bound_rules.specs.Bounding.{IsAsked, HasNoCause}
 use Rattle.bound_rules.specs.Numbers.{IsPrinted}
 use Rattle.bound_causes.specs.Naming.{IsNamedBy}
-use Rattle.wcet.specs.Certified.{IsCertified}
-use Rattle.wcet.specs.declared.ending.MethodBound.TheVariants.{Printed}
-use Rattle.wcet.specs.Ending.{IsMethodBound}
+use Rattle.bound_finder.specs.Certified.{IsCertified}
+use Rattle.bound_finder.specs.declared.ending.MethodBound.TheVariants.{Printed}
+use Rattle.bound_finder.specs.Ending.{IsMethodBound}
 use Rattle.bound_report.specs.declared.reports.Report.{Report}
 use Rattle.bound_report.specs.Report.{IsReportOf}
 use Rattle.report_lines.specs.Report.{IsReportText}

@@ -2,7 +2,7 @@
 use Rattle.std.specs.Prelude.{ℕ, ◌≤◌, Bool, List, [], ◌∷◌, length, map, codes}
 use Rattle.class_pool.specs.declared.class.ClassFile.{ClassFile}
 use Rattle.program_tables.specs.Numbers.{methods_by_number, method_text}
-use Rattle.method_names.specs.Written.{written}
+use Rattle.name_laws.specs.Written.{written}
 use Rattle.image_facts.specs.declared.method.CodedMethod.{CodedMethod}
 use Rattle.boundary.specs.Traces.{texts}
 use Rattle.commands.specs.declared.show.Show.{Show}

@@ -10,7 +10,7 @@ use Rattle.run_devices.specs.Lent.{Lent, lent}
 use Rattle.command_line.specs.declared.command.Settings.{Settings}
 use Rattle.command_line.specs.Command.{none_given, settings_of}
 use Rattle.jopizer.specs.Linked.{Parts, IsLinked}
-use Rattle.bound_cert.specs.Certificate.{Certificate}
+use Rattle.certificates.specs.Certificate.{Certificate}
 use Rattle.bound_rules.specs.declared.faults.BoundRefusal.{BoundRefusal}
 use Rattle.bound_rules.specs.Bounding.{IsCause}
 use Rattle.answer_lines.specs.declared.bound.BoundCause.{BoundCause}

@@ -1,7 +1,7 @@
 //! The run of a bare image, of whose file these are the bytes.
 ghost use Rattle.std.specs.Prelude.{◌≡◌, ◌<◌, ◌≤◌, ◌^◌, ◌⊎◌, [], length, Some, IfOk, IfErr};
 ghost use Rattle.image_file.specs.Bare.{BareContent, IsBareContent, IsBareFile};
-ghost use Rattle.stack_cache.specs.Size.{IsSize};
+ghost use Rattle.machine_memory.specs.Stack.Size.{IsSize};
 ghost use Rattle.jop_core.specs.Reset.{CanStartBare, bare_reset};
 ghost use Rattle.boundary.specs.Setting.{bare_setting};
 ghost use Rattle.run_devices.specs.Lent.{lent};

@@ -39,7 +39,7 @@ pub fn bound_linked(
     ensures { AnswersBound linked.now.classes settings.now bounds.now name.now result }
 {
     // The law is for the proof.
-    bound_sound::certificates_are_sound();
+    bound_laws::soundness::certificates_are_sound();
     match bound_program(alloc, linked.program(), settings, name, bounds) {
         Ok(text) => Answer::Text(text),
         Err(cause) => Answer::Ends(cause_ending(settings, cause)),

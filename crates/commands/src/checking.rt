@@ -51,7 +51,7 @@ pub fn check_linked(
     requires short { length bounds.now ≤ longest_file }
     ensures { Checks linked.now.classes settings.now bounds.now certificate.now result }
 {
-    bound_sound::certificates_are_sound();
+    bound_laws::soundness::certificates_are_sound();
     match check_program(alloc, linked.program(), settings, bounds, certificate) {
         Ok(held) => Ending::Holds(held),
         Err(refusal) => refusal_ending(settings, refusal),

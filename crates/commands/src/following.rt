@@ -1,10 +1,10 @@
 //! The run of what was linked, with a follower of its boundaries.
 ghost use Rattle.std.specs.Prelude.{◌≡◌, ◌<◌, ◌≤◌, ◌^◌, ℕ, length, IfOk, IfErr};
-ghost use Rattle.stack_cache.specs.Size.{IsSize};
+ghost use Rattle.machine_memory.specs.Stack.Size.{IsSize};
 ghost use Rattle.command_line.specs.Range.{AreSettings};
 ghost use Rattle.image_facts.specs.Methods.{AreMethods};
 ghost use Rattle.program_tables.specs.Resolved.{resolved};
-ghost use Rattle.linked_methods.specs.Fitting.{MethodFits};
+ghost use Rattle.jopizer.specs.Methods.Fitting.{MethodFits};
 ghost use Rattle.image_words.specs.Regions.{places_of};
 ghost use Rattle.jop_core.specs.Reset.{linked_reset};
 ghost use Rattle.run_devices.specs.Lent.{lent, wired};
@@ -24,7 +24,7 @@ use command_line::Settings;
 use image_builder::Layout;
 use jop_core::{Devices, Watch};
 use jopizer::Linked;
-use linked_methods::methods_of;
+use jopizer::methods::methods_of;
 use outside::{Sink, Source};
 use run_devices::RunDevice;
 use run_follower::Follower;

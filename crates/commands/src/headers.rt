@@ -3,7 +3,7 @@ ghost use Rattle.std.specs.Prelude.{◌≡◌, ◌≤◌, ℕ, length, Some, sli
 ghost use Rattle.base.specs.Sizes.{longest_file};
 ghost use Rattle.method_flow.specs.Flow.{Coded, IsFlowOf};
 ghost use Rattle.program_tables.specs.Resolved.{resolved};
-ghost use Rattle.method_names.specs.Written.{written_name};
+ghost use Rattle.name_laws.specs.Written.{written_name};
 ghost use Rattle.commands.specs.Headers.{header_ending, AnswersHeaders, AnswersBareHeaders};
 
 use crate::outcome::{Answer, Ending, Refusal};

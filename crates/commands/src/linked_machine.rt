@@ -1,6 +1,6 @@
 //! The run of a linked program, from reset.
 ghost use Rattle.std.specs.Prelude.{◌≡◌, ◌<◌, ◌^◌, IfOk, IfErr};
-ghost use Rattle.stack_cache.specs.Size.{IsSize};
+ghost use Rattle.machine_memory.specs.Stack.Size.{IsSize};
 ghost use Rattle.run_devices.specs.Lent.{lent};
 ghost use Rattle.image_facts.specs.Methods.{AreMethods};
 ghost use Rattle.program_tables.specs.Resolved.{resolved};
@@ -22,7 +22,7 @@ use boundary::{
 use bytecode_verifier::Verified;
 use image_builder::Layout;
 use jop_core::{Config, Watch};
-use linked_methods::methods_of;
+use jopizer::methods::methods_of;
 use outside::{Sink, Source};
 use program_tables::laws::methods_stand_by_number;
 use std::alloc::Global;

@@ -2,7 +2,7 @@
 ghost use Rattle.std.specs.Prelude.{◌≡◌, ◌≤◌, ℕ, length, IfOk, IfErr};
 ghost use Rattle.command_line.specs.Range.{AreSettings};
 ghost use Rattle.program_tables.specs.Resolved.{resolved};
-ghost use Rattle.linked_methods.specs.Fitting.{MethodFits};
+ghost use Rattle.jopizer.specs.Methods.Fitting.{MethodFits};
 ghost use Rattle.run_devices.specs.Lent.{lent};
 ghost use Rattle.commands.specs.Show.{IsTrace};
 ghost use Rattle.commands.specs.LinkedSettings.{RanLinkedWith};

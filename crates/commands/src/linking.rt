@@ -17,7 +17,7 @@ use answer_lines::Sizes;
 use base::NoMemory;
 use image_layout::coded_methods;
 use jopizer::{LinkRefusal, Linked, link, write_image};
-use method_names::read_name;
+use name_laws::read_name;
 use outside::{Files, FilesFault, Sink, put_all, read_files};
 use program_resolution::ProgramRefusal;
 use refusal_lines::name_in;

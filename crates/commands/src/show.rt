@@ -4,7 +4,7 @@ ghost use Rattle.boundary.specs.Traces.{texts};
 ghost use Rattle.commands.specs.Show.{bare_shown, linked_shown, method_names, shown_by};
 
 use base::NoMemory;
-use method_names::written_name;
+use name_laws::written_name;
 use resolved_program::Program;
 use std::alloc::Global;
 

@@ -85,7 +85,7 @@ fn main_bound(alloc: Global, linked: &Linked, n: u32, bounds: &[u8]) -> Result<O
 {
     // The laws are for the proof.
     bounds_are_read();
-    bound_sound::certificates_are_sound();
+    bound_laws::soundness::certificates_are_sound();
     let settings = usual_settings();
     let name = b"W.main([Ljava/lang/String;)V";
     match bound_number(alloc, linked.program(), &settings, name, bounds) {

@@ -17,13 +17,13 @@ use Rattle.loop_rules.specs.Tests.IsLimit.{constant, field}
 use Rattle.loop_rules.specs.Tests.IsTest.{with_zero, with_limit}
 use Rattle.loop_rules.specs.Iterations.{LastWrite, IsSetBefore}
 use Rattle.loop_rules.specs.Iterations.LastWrite.{here as writes_here, before as writes_before}
-use Rattle.further_rules.specs.Writing.{NodeWrites, MayBeLast}
-use Rattle.further_rules.specs.Writing.MayBeLast.{here as last_here, unwritten, before as last_before}
-use Rattle.further_rules.specs.Known.{Known, Pushes, Stores}
-use Rattle.further_rules.specs.Known.Pushes.{constant as push_constant, field as push_field}
-use Rattle.further_rules.specs.Known.Stores.{stores}
-use Rattle.further_rules.specs.Beginning.{BeginsAt}
-use Rattle.further_rules.specs.Laws.{LastWritesAreReached}
+use Rattle.loop_rules.specs.Further.Writing.{NodeWrites, MayBeLast}
+use Rattle.loop_rules.specs.Further.Writing.MayBeLast.{here as last_here, unwritten, before as last_before}
+use Rattle.loop_rules.specs.Further.Known.{Known, Pushes, Stores}
+use Rattle.loop_rules.specs.Further.Known.Pushes.{constant as push_constant, field as push_field}
+use Rattle.loop_rules.specs.Further.Known.Stores.{stores}
+use Rattle.loop_rules.specs.Further.Beginning.{BeginsAt}
+use Rattle.loop_rules.specs.Further.Laws.{LastWritesAreReached}
 use Rattle.counted_laws.specs.Counting.{CountedLoopsAreFurther}
 use Rattle.counted_laws.proofs.Visiting.{same_node}
 

@@ -18,8 +18,8 @@ use Rattle.bytecode_typing.specs.Laws.{FittingStatesAreWellFormed, TypedPrograms
 use Rattle.method_flow.specs.Nodes.{Node, At, number_of}
 use Rattle.method_flow.specs.Kinds.{RowsAreOfTheirKinds}
 use Rattle.code_lines.specs.Laws.{LinesAreOne, LinesAreApart, OneStandsBefore}
-use Rattle.further_rules.specs.Known.{Known}
-use Rattle.further_rules.specs.Fields.{PutsArray, PutOnlyArrays}
+use Rattle.loop_rules.specs.Further.Known.{Known}
+use Rattle.loop_rules.specs.Further.Fields.{PutsArray, PutOnlyArrays}
 use Rattle.method_runs.specs.Runs.{Walks, walks_after, walks_from, boot_walks}
 use Rattle.method_runs.specs.Standing.{MethodWalk, last_node, Standing}
 use Rattle.method_runs.specs.Standing.MethodWalk.{starts, goes}

@@ -21,7 +21,7 @@ use Rattle.bytecode_model.specs.Steps.{class_of}
 use Rattle.bytecode_model.specs.WellFormed.{AreSpaced, is_call}
 use Rattle.method_flow.specs.Nodes.{At, RaiseAt, IsAtOffset}
 use Rattle.code_lines.specs.Lines.{written_by}
-use Rattle.further_rules.specs.Known.{Known}
+use Rattle.loop_rules.specs.Further.Known.{Known}
 use Rattle.counted_laws.specs.Visits.{Visit, visit_of, lengths_of, HoldsValue, HoldsInt, IsArrayOf, Pushed, HasArray, Branched, DidRow}
 use Rattle.counted_laws.specs.Paths.{HoldKnown}
 use Rattle.counted_laws.proofs.Storing.{replaced_same, replaced_other, stored_same, stored_keeps}

@@ -20,10 +20,10 @@ use Rattle.bytecode_typing.specs.Tests.{Holds}
 use Rattle.bytecode_typing.specs.Lawful.{Lawful}
 use Rattle.code_lines.specs.Lines.{IsLine}
 use Rattle.loop_rules.specs.Tests.{Constants}
-use Rattle.further_rules.specs.Known.{Known}
-use Rattle.further_rules.specs.Fields.{PutsArray, IsReferenceType, PutOnlyArrays}
+use Rattle.loop_rules.specs.Further.Known.{Known}
+use Rattle.loop_rules.specs.Further.Fields.{PutsArray, IsReferenceType, PutOnlyArrays}
 use Rattle.counted_laws.specs.Visits.{lengths_of, Grows, IsArrayOf}
-use Rattle.further_rules.specs.Found.{only_constants}
+use Rattle.loop_rules.specs.Further.Found.{only_constants}
 use Rattle.counted_laws.specs.Paths.{HoldConstants, HoldArrays}
 use Rattle.counted_laws.proofs.Storing.{replaced_same, replaced_other}
 use Rattle.counted_laws.proofs.Lengths.{same_grows, made_grows, still_array, Written}

@@ -25,7 +25,7 @@ use Rattle.method_flow.specs.Calls.{IsCall, IsTarget}
 use Rattle.method_flow.specs.Kinds.{LeadsByKind, RowsAreOfTheirKinds}
 use Rattle.method_flow.specs.Shapes.{node_of, IsGoingOn, Moves, Enters, Returns, Drops}
 use Rattle.loop_rules.specs.Tests.{Constants}
-use Rattle.further_rules.specs.Known.{Known}
+use Rattle.loop_rules.specs.Further.Known.{Known}
 use Rattle.method_runs.specs.Runs.{Walks, with_nodes, walks_from, unknown_walks}
 use Rattle.method_runs.specs.Standing.{last_node, made_of, IsBelow, Waiting, Standing}
 use Rattle.method_runs.specs.Steps.{WalksStep, Stepped, Stayed}
@@ -33,7 +33,7 @@ use Rattle.method_runs.specs.Steps.WalksStep.{moves, enters, returns, drops, end
 use Rattle.method_runs.specs.Laws.{GivesBytes, HasWalks, RunsHaveWalks, UnknownWalksStand}
 use Rattle.counted_laws.specs.Visits.{Visit, visit_of, lengths_of, Grows, HoldsValue, Passes, Path}
 use Rattle.counted_laws.specs.Visits.Path.{here, more}
-use Rattle.further_rules.specs.Found.{only_constants}
+use Rattle.loop_rules.specs.Further.Found.{only_constants}
 use Rattle.counted_laws.specs.Paths.{HoldConstants, HoldArrays, HoldKnown, HasPath, WaitingPaths, HavePaths, RunsHavePaths}
 use Rattle.counted_laws.proofs.Lengths.{then_grows}
 use Rattle.counted_laws.proofs.Doing.{call_does}

@@ -17,12 +17,12 @@ use Rattle.method_flow.specs.Graphs.{IsGraphOf}
 use Rattle.code_lines.specs.Laws.{LinesAreOne, LinesAreApart, OneStandsBefore}
 use Rattle.loop_rules.specs.Tests.{Constants}
 use Rattle.loop_rules.specs.Counted.{EachCycleIsALoop}
-use Rattle.further_rules.specs.Known.{Known}
+use Rattle.loop_rules.specs.Further.Known.{Known}
 use Rattle.bytecode_model.specs.Steps.{run_from}
 use Rattle.method_runs.specs.Runs.{Walks, walks_from, unknown_walks}
 use Rattle.counted_laws.specs.Visits.{Visit, Passes, Path}
 use Rattle.counted_laws.specs.Visits.Path.{here, more}
-use Rattle.further_rules.specs.Found.{only_constants}
+use Rattle.loop_rules.specs.Further.Found.{only_constants}
 use Rattle.counted_laws.specs.Paths.{WaitingPaths, HavePaths, RunsHavePaths, RunsHoldArrays}
 use Rattle.counted_laws.specs.Counting.{CountsFurther, CountedLoopsAreFurther, FurtherPathsKeep, CountedPathsKeep, FramesCount, FramesCountFurther, CountedLoopsKeep, FurtherLoopsKeep}
 use Rattle.counted_laws.proofs.Cycles.{at_last, each_of}

@@ -14,15 +14,15 @@ use Rattle.loop_nest.specs.Walks.{IsEntering}
 use Rattle.method_flow.specs.Nodes.{Node, At, RaiseAt, number_of, IsEdge, IsReached}
 use Rattle.code_lines.specs.Lines.{IsLine, IsNamed, Writes, written_by}
 use Rattle.code_lines.specs.Laws.{LinesAreOne, LinesAreApart, OneStandsBefore}
-use Rattle.further_rules.specs.Writing.{NodeWrites, MayBeLast}
-use Rattle.further_rules.specs.Writing.MayBeLast.{here as last_here, unwritten, before as last_before}
-use Rattle.further_rules.specs.Known.{Known, Pushes, PushesArray, Stores, StoresArray}
-use Rattle.further_rules.specs.Known.Pushes.{constant, field, local, length, computed}
-use Rattle.further_rules.specs.Known.PushesArray.{numbers, references, of_static, of_instance, of_local, element}
-use Rattle.further_rules.specs.Known.Stores.{stores}
-use Rattle.further_rules.specs.Known.StoresArray.{keeps}
-use Rattle.further_rules.specs.Fields.{PutsArray}
-use Rattle.further_rules.specs.Beginning.{BeginsAt}
+use Rattle.loop_rules.specs.Further.Writing.{NodeWrites, MayBeLast}
+use Rattle.loop_rules.specs.Further.Writing.MayBeLast.{here as last_here, unwritten, before as last_before}
+use Rattle.loop_rules.specs.Further.Known.{Known, Pushes, PushesArray, Stores, StoresArray}
+use Rattle.loop_rules.specs.Further.Known.Pushes.{constant, field, local, length, computed}
+use Rattle.loop_rules.specs.Further.Known.PushesArray.{numbers, references, of_static, of_instance, of_local, element}
+use Rattle.loop_rules.specs.Further.Known.Stores.{stores}
+use Rattle.loop_rules.specs.Further.Known.StoresArray.{keeps}
+use Rattle.loop_rules.specs.Further.Fields.{PutsArray}
+use Rattle.loop_rules.specs.Further.Beginning.{BeginsAt}
 use Rattle.counted_laws.specs.Visits.{Visit, HoldsValue, HoldsInt, IsArrayOf, Grows, Passes, Path}
 use Rattle.counted_laws.specs.Visits.Path.{here, more}
 use Rattle.counted_laws.proofs.Lengths.{then_grows, still_array}

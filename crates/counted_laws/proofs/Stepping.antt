@@ -20,7 +20,7 @@ use Rattle.lists.proofs.Lemmas.{none≢some, onto_some, some_same}
 use Rattle.method_flow.specs.Nodes.{Node, At, RaiseAt}
 use Rattle.method_flow.specs.Shapes.{node_of, IsGoingOn}
 use Rattle.code_lines.specs.Lines.{IsLine, Writes}
-use Rattle.further_rules.specs.Known.{Known}
+use Rattle.loop_rules.specs.Further.Known.{Known}
 use Rattle.method_runs.specs.Standing.{last_node}
 use Rattle.counted_laws.specs.Visits.{Visit, visit_of, HoldsValue, DidRow}
 use Rattle.counted_laws.specs.Paths.{HoldKnown}

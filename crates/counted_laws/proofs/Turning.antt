@@ -22,7 +22,7 @@ use Rattle.loop_rules.specs.Iterations.{ReachesWithout, IsOnEachIteration, First
 use Rattle.loop_rules.specs.Iterations.FirstTested.{test_first, step_first}
 use Rattle.loop_rules.specs.Values.{value_at}
 use Rattle.loop_rules.specs.Counted.{EachCycleIsALoop}
-use Rattle.further_rules.specs.Known.{Known}
+use Rattle.loop_rules.specs.Further.Known.{Known}
 use Rattle.counted_laws.specs.Visits.{Visit, HoldsInt, Passes, Path}
 use Rattle.counted_laws.specs.Counting.{CountsFurther}
 use Rattle.counted_laws.proofs.Cycles.{split_at, at_last, last_cases, all_of, walk_more, no_return}

@@ -21,7 +21,7 @@ use Rattle.code_lines.specs.Laws.{LinesAreOne, LinesAreApart, OneStandsBefore}
 use Rattle.loop_rules.specs.Tests.{IsTest, LeavesLoop}
 use Rattle.loop_rules.specs.Tests.IsTest.{with_zero, with_limit}
 use Rattle.loop_rules.specs.Tests.LeavesLoop.{where_taken, where_not}
-use Rattle.further_rules.specs.Known.{Known, Pushes}
+use Rattle.loop_rules.specs.Further.Known.{Known, Pushes}
 use Rattle.counted_laws.specs.Visits.{Visit, HoldsValue, HoldsInt, Branched, Grows, Passes, Path}
 use Rattle.counted_laws.specs.Visits.Path.{here, more}
 use Rattle.counted_laws.proofs.Lengths.{then_grows}

@@ -13,13 +13,13 @@ use Rattle.method_flow.specs.Nodes.{At, number_of}
 use Rattle.method_flow.specs.Graphs.{IsGraphOf}
 use Rattle.loop_rules.specs.Tests.{Constants}
 use Rattle.loop_rules.specs.Counted.{CountsBy, CountsTo, EachCycleIsALoop}
-use Rattle.further_rules.specs.Known.{Known, Pushes}
-use Rattle.further_rules.specs.Fields.{PutOnlyArrays}
-use Rattle.further_rules.specs.Beginning.{BeginsAt}
+use Rattle.loop_rules.specs.Further.Known.{Known, Pushes}
+use Rattle.loop_rules.specs.Further.Fields.{PutOnlyArrays}
+use Rattle.loop_rules.specs.Further.Beginning.{BeginsAt}
 use Rattle.method_runs.specs.Runs.{Walks, walks_from, boot_walks, unknown_walks}
 use Rattle.method_runs.specs.Laws.{GivesBytes}
 use Rattle.counted_laws.specs.Visits.{Visit, Path}
-use Rattle.further_rules.specs.Found.{only_constants}
+use Rattle.loop_rules.specs.Further.Found.{only_constants}
 use Rattle.counted_laws.specs.Paths.{HoldConstants, HoldKnown}
 
 -- The loop counts with a limit that is known where it is pushed, by one line or by several, and begins with one that is known, by whichever edge it is

@@ -16,9 +16,9 @@ use Rattle.bytecode_typing.specs.Fits.{Fits}
 use Rattle.method_flow.specs.Nodes.{Node, At}
 use Rattle.code_lines.specs.Lines.{IsNeverPut}
 use Rattle.loop_rules.specs.Tests.{Constants}
-use Rattle.further_rules.specs.Known.{Known}
-use Rattle.further_rules.specs.Fields.{PutOnlyArrays}
-use Rattle.further_rules.specs.Found.{only_constants}
+use Rattle.loop_rules.specs.Further.Known.{Known}
+use Rattle.loop_rules.specs.Further.Fields.{PutOnlyArrays}
+use Rattle.loop_rules.specs.Further.Found.{only_constants}
 use Rattle.method_runs.specs.Runs.{Walks, walks_from, boot_walks, unknown_walks}
 use Rattle.method_runs.specs.Standing.{last_node}
 use Rattle.method_runs.specs.Laws.{GivesBytes}

@@ -14,7 +14,7 @@ use Rattle.bytecode_model.specs.Rows.{Row}
 use Rattle.bytecode_model.specs.Steps.{row_in}
 use Rattle.method_flow.specs.Nodes.{Node, At, number_of, IsAtOffset, IsEdge}
 use Rattle.code_lines.specs.Lines.{Writes, IsNeverPut}
-use Rattle.further_rules.specs.Known.{Known}
+use Rattle.loop_rules.specs.Further.Known.{Known}
 
 -- how many fields or elements each object has
 abbrev pub lengths_of : List Object → List ℕ

@@ -48,7 +48,7 @@ pub fn runs_hold_arrays()
 pub fn counted_loops_are_further()
     ensures { CountedLoopsAreFurther }
 {
-    further_rules::laws::last_writes_are_reached();
+    loop_rules::further::laws::last_writes_are_reached();
     loop_nest::laws::entry_dominates_all();
 }
 

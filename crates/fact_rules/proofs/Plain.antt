@@ -4,7 +4,7 @@ use Rattle.std.specs.Prelude.{◌+ℤ◌, pos, option_map}
 use Rattle.lists.specs.Members.{at_head, in_tail, nil_contains}
 use Rattle.section_check.specs.Section.{entry_fee, potential, with_fee}
 use Rattle.priced_cert.specs.declared.prices.Price.{Price}
-use Rattle.bound_cert.specs.declared.cert.CertSection.{CertSection}
+use Rattle.certificates.specs.declared.cert.CertSection.{CertSection}
 use Rattle.bytecode_model.specs.Program.{Program}
 use Rattle.method_flow.specs.Keeping.{BoundOf}
 use Rattle.method_flow.specs.declared.timing.Timing.{Timing}

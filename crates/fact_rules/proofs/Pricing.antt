@@ -1,7 +1,7 @@
 -- The first price without a fact is one, and there is none where each price is of a fact; sections with their prices, by their places.
 use Rattle.std.proofs.Common.{◌≡◌, ℕ, zero, suc, ◌<◌, false, true, List, [], ◌∷◌, ◌++◌, length, get_or, Contains, Option, None, Some, IsSome, refl, sym, ap, ◌∙◌, subst, arith}
 use Rattle.lists.specs.Members.{heads, tails, at_head, in_tail}
-use Rattle.bound_cert.specs.declared.cert.CertSection.{CertSection}
+use Rattle.certificates.specs.declared.cert.CertSection.{CertSection}
 use Rattle.priced_cert.specs.declared.prices.Price.{Price}
 use Rattle.fact_rules.specs.Pricing.{PricedSection, with_prices, PlacedPrice}
 use Rattle.fact_rules.specs.Conditions.{AreOfFacts}

@@ -5,8 +5,8 @@ use Rattle.section_check.specs.Bounded.{cost_of}
 use Rattle.section_check.specs.Section.{CertifiedLoop, potential}
 use Rattle.section_check.specs.Placing.{IsEntryAt}
 use Rattle.section_check.specs.Laws.{loops_of}
-use Rattle.bound_cert.specs.declared.cert.CertSection.{CertSection}
-use Rattle.bound_cert.specs.Certificate.{Certificate}
+use Rattle.certificates.specs.declared.cert.CertSection.{CertSection}
+use Rattle.certificates.specs.Certificate.{Certificate}
 use Rattle.bytecode_model.specs.Program.{Program}
 use Rattle.method_flow.specs.Nodes.{Node, At}
 use Rattle.method_flow.specs.Live.{CanEnd, IsLiveEdge, LiveWalk}

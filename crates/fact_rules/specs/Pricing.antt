@@ -2,7 +2,7 @@
 use Rattle.std.specs.Prelude.{ℕ, ◌+◌, ◌*◌, ◌==◌, ◌&&◌, Bool, true, false, if◌then◌else◌, List, [], ◌∷◌, ◌++◌, map, flat_map, sum_by, Option, Some, None}
 use Rattle.std.specs.Prelude.{option_map}
 use Rattle.std.specs.Option.{option_to_list, option_map_or}
-use Rattle.bound_cert.specs.declared.cert.CertSection.{CertSection}
+use Rattle.certificates.specs.declared.cert.CertSection.{CertSection}
 use Rattle.flow_facts.specs.declared.facts.Scope.{Scope}
 use Rattle.flow_facts.specs.declared.facts.Scope.TheVariants.{Own, Per, In}
 use Rattle.flow_facts.specs.Facts.{CountFact, Facts}

@@ -5,7 +5,7 @@ use Rattle.std.proofs.lemmas.Bool.{true≢false}
 use Rattle.std.proofs.lemmas.List.{append_cancel_left, append_cancel_right, length-append}
 use Rattle.std.proofs.lemmas.Str.Parse.{digit_at}
 use lib.Pointwise.{pointwise, bytes_decides}
-use Rattle.loop_bounds.specs.Lines.{IsNumber}
+use Rattle.bound_texts.specs.Loops.Lines.{IsNumber}
 use Rattle.flow_facts.specs.declared.line.NodeName.{NodeName}
 use Rattle.flow_facts.specs.declared.line.NodeName.TheVariants.{Instruction, RaiseStep}
 use Rattle.flow_facts.specs.declared.line.SaidScope.{SaidScope}

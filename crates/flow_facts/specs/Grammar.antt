@@ -1,7 +1,7 @@
 -- The text of facts, line by line.
 use Rattle.std.specs.Prelude.{◌≡◌, ◌≢◌, ℕ, suc, List, [], ◌∷◌, ◌++◌, length, map, AllPairs, Contains}
 use Rattle.ascii_text.specs.Line.{lines_of}
-use Rattle.loop_bounds.specs.Lines.{IsSilent}
+use Rattle.bound_texts.specs.Loops.Lines.{IsSilent}
 use Rattle.flow_facts.specs.declared.line.NumberedFact.{NumberedFact}
 use Rattle.flow_facts.specs.declared.line.Subject.{Subject}
 use Rattle.flow_facts.specs.declared.reading.FactsFault.{FactsFault}

@@ -1,7 +1,7 @@
 -- A line of the text of facts: its words, and what it says.
 use Rattle.std.specs.Prelude.{◌≡◌, ◌≢◌, ℕ, ◌+◌, ◌*◌, ◌==◌, ◌<◌, List, [], ◌∷◌, ◌++◌, length, codes, All, AllPairs}
 use Rattle.std.specs.List.{slice_split}
-use Rattle.loop_bounds.specs.Lines.{IsNumber, IsSilent}
+use Rattle.bound_texts.specs.Loops.Lines.{IsNumber, IsSilent}
 use Rattle.flow_facts.specs.declared.line.NodeName.{NodeName}
 use Rattle.flow_facts.specs.declared.line.NodeName.TheVariants.{Instruction, RaiseStep}
 use Rattle.flow_facts.specs.declared.line.SaidScope.{SaidScope}

@@ -1,6 +1,6 @@
 -- What a line is found to say.
 use Rattle.std.specs.Prelude.{◌≢◌, ℕ, List, All, AllPairs}
-use Rattle.loop_bounds.specs.Lines.{IsSilent}
+use Rattle.bound_texts.specs.Loops.Lines.{IsSilent}
 use Rattle.flow_facts.specs.declared.line_reader.Said.{Said}
 use Rattle.flow_facts.specs.declared.line_reader.Said.TheVariants.{Nothing, Fact, Malformed}
 use Rattle.flow_facts.specs.Lines.{IsMethodName, IsFactLine, IsNoFactLine}

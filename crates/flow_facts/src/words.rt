@@ -1,6 +1,6 @@
 //! The words of a line.
 ghost use Rattle.std.specs.Prelude.{◌≡◌, ◌≢◌, ◌++◌, ℕ, List, codes, map, IfOk, IfSome, IfNone, IsTrue, ◌↔◌};
-ghost use Rattle.loop_bounds.specs.Lines.{IsNumber};
+ghost use Rattle.bound_texts.specs.Loops.Lines.{IsNumber};
 ghost use Rattle.flow_facts.specs.Lines.{words_in, NamesNode, SaysMost};
 ghost use Rattle.flow_facts.specs.Adding.{FindsOneThat};
 

@@ -22,9 +22,9 @@ use Rattle.image_words.specs.Regions.{code_place, selected_place, table_image}
 use Rattle.image_facts.specs.Places.{Places}
 use Rattle.image_words.proofs.TableLemmas.{slots_step}
 use Rattle.image_builder.proofs.ListLemmas.{last_get}
-use Rattle.method_selection.specs.declared.selected.Selected.{Selected}
-use Rattle.method_selection.specs.Selecting.{IsSelected, IsSelectedAbove}
-use Rattle.method_selection.proofs.Lemmas.{by_superclass}
+use Rattle.class_selection.specs.declared.selected.Selected.{Selected}
+use Rattle.class_selection.specs.Selecting.{IsSelected, IsSelectedAbove}
+use Rattle.class_selection.proofs.Lemmas.{by_superclass}
 use Rattle.image_layout.specs.Rows.{AreSelected, AreSelectedAbove, AreRows, AreAllRows, table_methods}
 
 pub got : {A : Type 0} (xs : List A) (i : ℕ) (x : A) → i < length xs → x ≡ get_or xs i x → slice_get xs i ≡ Some x

@@ -4,8 +4,8 @@ use Rattle.class_pool.specs.declared.class.ClassFile.{ClassFile}
 use Rattle.class_lookup.specs.Hierarchy.{is_interface, is_among}
 use Rattle.class_lookup.specs.Lookup.{Place}
 use Rattle.image_words.specs.Slots.{interface_methods}
-use Rattle.method_selection.specs.declared.selected.Selected.{Selected}
-use Rattle.method_selection.specs.Selecting.{IsSelected, IsSelectedAbove}
+use Rattle.class_selection.specs.declared.selected.Selected.{Selected}
+use Rattle.class_selection.specs.Selecting.{IsSelected, IsSelectedAbove}
 
 -- what is selected for receivers of the class, for each of these methods
 pub record AreSelected (cs : List ClassFile) (c : ℕ) (methods : List Place) (row : List Selected) : Type 0 where

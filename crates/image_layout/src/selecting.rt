@@ -2,7 +2,7 @@
 ghost use Rattle.std.specs.Prelude.{◌≡◌, ◌<◌, ℕ, [], length, Some, slice_get, slice_index_or, IfOk};
 ghost use Rattle.class_lookup.specs.Hierarchy.{superclass};
 ghost use Rattle.class_lookup.specs.Lookup.{Place as APlace};
-ghost use Rattle.method_selection.specs.Selecting.{IsSelectedAbove};
+ghost use Rattle.class_selection.specs.Selecting.{IsSelectedAbove};
 ghost use Rattle.image_words.specs.Order.{IsSuperclassFirst};
 ghost use Rattle.image_words.specs.Slots as numbered;
 ghost use Rattle.image_words.specs.Tables.{AreSlots};
@@ -12,8 +12,8 @@ use base::{Items, NoMemory};
 use class_hierarchy::Hierarchy;
 use class_lookup::Place;
 use class_lookup::laws::superclasses_stand_above;
+use class_selection::{Selected, selected_above, selected_with};
 use image_words::{Slots, superclass_order};
-use method_selection::{Selected, selected_above, selected_with};
 use std::alloc::Global;
 
 /// No rows yet, for so many classes.

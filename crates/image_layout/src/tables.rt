@@ -7,14 +7,14 @@ ghost use Rattle.image_words.specs.Slots.{interface_methods};
 ghost use Rattle.image_words.specs.Regions.{code_place, selected_place, implemented_place, table_image, tables_region, interface_image, interfaces_region};
 ghost use Rattle.image_words.specs.Outline.{IsOutline};
 ghost use Rattle.image_layout.specs.Rows.{AreSelected, AreAllRows, table_methods};
-ghost use Rattle.method_selection.specs.Selecting.{IsSelected};
+ghost use Rattle.class_selection.specs.Selecting.{IsSelected};
 
 use crate::selecting::{interface_rows, slot_rows};
 use base::{Items, NoMemory};
 use class_lookup::{Classes, Place, method_at};
+use class_selection::Selected;
 use image_builder::add_zeros;
 use image_words::{Outline, is_interface};
-use method_selection::Selected;
 use resolved_program::Program;
 use std::alloc::Global;
 

@@ -11,7 +11,7 @@ use Rattle.lists.proofs.Among.{among_at, in_option, option_in}
 use Rattle.class_lookup.specs.Hierarchy.{superclass, superclasses, is_among, IsAcyclic}
 use Rattle.class_lookup.specs.Laws.{AreSuperclasses}
 use Rattle.class_lookup.proofs.Hierarchies.{super_is_above}
-use Rattle.upward_sets.specs.Numbers.{entry, IsPeeled, IsStuck}
+use Rattle.number_sets.specs.Numbers.{entry, IsPeeled, IsStuck}
 use Rattle.image_words.specs.Order.{IsSuperclassFirst}
 use Rattle.image_words.proofs.FillLemmas.{superclass_within}
 

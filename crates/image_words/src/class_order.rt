@@ -9,8 +9,8 @@ use base::{Items, NoMemory};
 use class_hierarchy::Hierarchy;
 use class_lookup::Classes;
 use class_lookup::laws::superclasses_stand_above;
+use number_sets::{NumberSet, order_of};
 use std::alloc::Global;
-use upward_sets::{NumberSet, order_of};
 
 /// The superclass of each class, as a list of one or none.
 fn superclass_lists(alloc: Global, classes: &Classes) -> Result<Vec<Items<u32>>, NoMemory>

@@ -7,11 +7,11 @@ use Rattle.lists.proofs.Lemmas.{none≢some}
 use Rattle.outside.specs.Outside.{Grew}
 use Rattle.program_tables.specs.Resolved.{resolved}
 use Rattle.bytecode_model.specs.Program.{body_of}
-use Rattle.loop_bounds.specs.declared.BoundsFault.TheVariants as texts
-use Rattle.loop_bounds.specs.Bounds.{LoopBound}
-use Rattle.loop_bounds.specs.Laws.{GivesOne, ReadIsNotRefused}
-use Rattle.bound_cert.specs.Certificate.{Certificate, IsInGrammar}
-use Rattle.bound_cert.specs.Texts.{text_of}
+use Rattle.bound_texts.specs.declared.loops.BoundsFault.TheVariants as texts
+use Rattle.bound_texts.specs.Loops.Bounds.{LoopBound}
+use Rattle.bound_texts.specs.Loops.Laws.{GivesOne, ReadIsNotRefused}
+use Rattle.certificates.specs.Certificate.{Certificate, IsInGrammar}
+use Rattle.certificates.specs.Texts.{text_of}
 use Rattle.bound_rules.specs.declared.faults.BoundRefusal.{BoundRefusal}
 use Rattle.bound_rules.specs.declared.faults.BoundRefusal.TheVariants as forbids
 use Rattle.bound_rules.specs.Bounding.{IsCause}

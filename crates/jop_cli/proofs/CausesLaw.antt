@@ -2,9 +2,9 @@
 use Rattle.std.proofs.Common.{◌≡◌, ℕ, List, Some, refl, sym, ◌∙◌, ap, ap₂, ◌⊎◌, inl, inr}
 use Rattle.lists.proofs.Lemmas.{some_same}
 use Rattle.program_tables.specs.Resolved.{resolved}
-use Rattle.method_names.specs.Written.{written_name}
-use Rattle.loop_bounds.specs.Bounds.{LoopBound}
-use Rattle.loop_bounds.specs.Laws.{GivesOne, ReadIsNotRefused}
+use Rattle.name_laws.specs.Written.{written_name}
+use Rattle.bound_texts.specs.Loops.Bounds.{LoopBound}
+use Rattle.bound_texts.specs.Loops.Laws.{GivesOne, ReadIsNotRefused}
 use Rattle.bound_rules.specs.declared.faults.BoundRefusal.{BoundRefusal}
 use Rattle.bound_rules.specs.declared.faults.BoundRefusal.TheVariants as forbids
 use Rattle.bound_laws.specs.Existing.{ResolvedCodesAreShort, HaveOwnCosts, OwnCostsExist}

@@ -6,13 +6,13 @@ use Rattle.std.specs.List.{concat}
 use Rattle.outside.specs.Outside.{Grew}
 use Rattle.class_pool.specs.declared.class.ClassFile.{ClassFile}
 use Rattle.program_tables.specs.Resolved.{resolved}
-use Rattle.method_names.specs.Written.{written_name}
+use Rattle.name_laws.specs.Written.{written_name}
 use Rattle.bytecode_model.specs.Program.{body_of}
-use Rattle.loop_bounds.specs.declared.BoundsFault.TheVariants as texts
-use Rattle.loop_bounds.specs.Bounds.{LoopBound}
-use Rattle.loop_bounds.specs.Laws.{GivesOne, ReadIsNotRefused}
-use Rattle.bound_cert.specs.Certificate.{Certificate}
-use Rattle.bound_cert.specs.Laws.{HasOneCertificate}
+use Rattle.bound_texts.specs.declared.loops.BoundsFault.TheVariants as texts
+use Rattle.bound_texts.specs.Loops.Bounds.{LoopBound}
+use Rattle.bound_texts.specs.Loops.Laws.{GivesOne, ReadIsNotRefused}
+use Rattle.certificates.specs.Certificate.{Certificate}
+use Rattle.certificates.specs.Laws.{HasOneCertificate}
 use Rattle.ascii_text.specs.Line.{lines_of as text_lines}
 use Rattle.bound_rules.specs.declared.faults.CheckFault.{CheckFault}
 use Rattle.bound_rules.specs.Conditions.{MeetsConditions}

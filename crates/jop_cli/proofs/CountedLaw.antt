@@ -10,8 +10,8 @@ use Rattle.activations.specs.Steps.{PlacesTellWords, StepsAreTold}
 use Rattle.boundary.specs.Runs.{Goes, input_of}
 use Rattle.boundary.proofs.Obeys.{Sort, Plain, Takes, Puts, Obeys, step_sort}
 use Rattle.boundary.proofs.Answered.{reached}
-use Rattle.counted_activations.specs.Runs.{IsOfBootRun, CountedLoopsOfRuns}
-use Rattle.counted_activations.specs.FurtherRuns.{FurtherLoopsOfRuns}
+use Rattle.activation_laws.specs.Counted.Runs.{IsOfBootRun, CountedLoopsOfRuns}
+use Rattle.activation_laws.specs.Counted.FurtherRuns.{FurtherLoopsOfRuns}
 use Rattle.jop_core.specs.Reset.{linked_reset}
 use Rattle.analysis_commands.specs.Analysis.{timing_of}
 use Rattle.commands.specs.Show.{linked_shown}

@@ -8,10 +8,10 @@ use Rattle.slot_table.specs.Slots.{length_of, IsTable, AreRightSlots}
 use Rattle.section_check.specs.Least.{IsLeast}
 use Rattle.program_tables.specs.Resolved.{resolved}
 use Rattle.run_follower.specs.Following.{followed}
-use Rattle.activation_watch.specs.declared.slots.Slots.{Slots}
-use Rattle.activation_watch.specs.Watched.{slots_of}
-use Rattle.activation_watch.specs.Counting.{SlotCount, slots_after, no_slots}
-use Rattle.activation_watch.specs.Promises.{counted, SlotsAreExact}
+use Rattle.run_follower.specs.declared.watch.slots.Slots.{Slots}
+use Rattle.run_follower.specs.Watch.Watched.{slots_of}
+use Rattle.run_follower.specs.Watch.Counting.{SlotCount, slots_after, no_slots}
+use Rattle.run_follower.specs.Watch.Promises.{counted, SlotsAreExact}
 use Rattle.activation_laws.specs.Profiled.{SeenAreWithin}
 use Rattle.boundary.specs.Setting.{Setting}
 use Rattle.boundary.specs.Activations.{Stage}
@@ -20,7 +20,7 @@ use Rattle.run_devices.specs.Lent.{Lent, wired}
 use Rattle.command_line.specs.declared.command.Settings.{Settings}
 use Rattle.jopizer.specs.Linked.{Parts}
 use Rattle.analysis_commands.specs.Analysis.{named_or_number}
-use Rattle.analysis_commands.specs.Plan.{IsCyclicMain}
+use Rattle.slot_plans.specs.Plan.{IsCyclicMain}
 use Rattle.commands.specs.declared.program_end.ProgramEnd.{ProgramEnd}
 use Rattle.commands.specs.declared.outcome.Ending.{Ending}
 use Rattle.commands.specs.declared.outcome.Ending.TheVariants as endings

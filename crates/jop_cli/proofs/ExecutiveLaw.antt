@@ -7,11 +7,11 @@ use Rattle.class_pool.specs.declared.class.ClassFile.{ClassFile}
 use Rattle.class_lookup.specs.Parts.{same_text}
 use Rattle.bytecode_model.specs.Program.{Body, body_of}
 use Rattle.program_tables.specs.Resolved.{resolved}
-use Rattle.method_names.specs.Written.{written, written_name}
+use Rattle.name_laws.specs.Written.{written, written_name}
 use Rattle.program_resolution.proofs.NameLemmas.{same_self}
 use Rattle.jopizer.specs.Laws.{MainIsThere}
 use Rattle.analysis_commands.specs.Analysis.{named_or_number, number_text}
-use Rattle.analysis_commands.specs.Plan.{executive_name, IsCyclicMain, IsExecutive}
+use Rattle.slot_plans.specs.Plan.{executive_name, IsCyclicMain, IsExecutive}
 use Rattle.jop_cli.specs.promises.Plan.{ExecutivesAreThere}
 
 -- ---- the first number that passes a test

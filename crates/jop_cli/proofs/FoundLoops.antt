@@ -19,14 +19,14 @@ use Rattle.program_tables.specs.Resolved.{resolved}
 use Rattle.loop_rules.specs.declared.found.FoundLoop.{FoundLoop}
 use Rattle.loop_rules.specs.Sites.{int_at}
 use Rattle.loop_rules.specs.Tests.{Constants}
-use Rattle.further_rules.specs.Known.{Known}
-use Rattle.further_rules.specs.Fields.{PutOnlyArrays}
-use Rattle.further_rules.specs.Found.{only_constants}
-use Rattle.further_rules.specs.Arrays.{IsKnownBy, PutsKeepArrays}
+use Rattle.loop_rules.specs.Further.Known.{Known}
+use Rattle.loop_rules.specs.Further.Fields.{PutOnlyArrays}
+use Rattle.loop_rules.specs.Further.Found.{only_constants}
+use Rattle.loop_rules.specs.Further.Arrays.{IsKnownBy, PutsKeepArrays}
 use Rattle.counted_laws.specs.Counting.{CountsFurther, CountedLoopsAreFurther, FramesCountFurther, FurtherLoopsKeep}
 use Rattle.counted_laws.specs.Paths.{AreNullAtFirst, BootHoldsKnown, HoldConstants, HoldKnown}
-use Rattle.counted_activations.specs.Others.{CountsIn, CountsFurtherIn}
-use Rattle.counted_activations.specs.Runs.{BootHoldsConstants}
+use Rattle.activation_laws.specs.Counted.Others.{CountsIn, CountsFurtherIn}
+use Rattle.activation_laws.specs.Counted.Runs.{BootHoldsConstants}
 use Rattle.activations.specs.Setting.{Setting, IsSetting, limits}
 use Rattle.activations.specs.Activations.{Stage}
 use Rattle.boundary.specs.Runs.{IsRun, input_of}

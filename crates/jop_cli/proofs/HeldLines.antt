@@ -6,10 +6,10 @@ use Rattle.std.proofs.lemmas.List.{append_cancel_left, append_cancel_right}
 use Rattle.std.proofs.lemmas.List.Elements.{All-from_recursion}
 use Rattle.class_pool.specs.declared.class.ClassFile.{ClassFile}
 use Rattle.program_tables.specs.Resolved.{method_name}
-use Rattle.method_names.specs.Written.{written_name}
-use Rattle.method_names.proofs.Escapes.{written_high}
-use Rattle.bound_cert.specs.CertLines.{bound_text, IsBoundValue}
-use Rattle.bound_cert.proofs.NumberLemmas.{IsDigit, digits_are}
+use Rattle.name_laws.specs.Written.{written_name}
+use Rattle.name_laws.proofs.Escapes.{written_high}
+use Rattle.certificates.specs.CertLines.{bound_text, IsBoundValue}
+use Rattle.certificates.proofs.NumberLemmas.{IsDigit, digits_are}
 use Rattle.std.proofs.lemmas.Fmt.{decimal_injective}
 use Rattle.slot_table.specs.Parts.{IsCut}
 use Rattle.slot_table.proofs.Cuts.{one_cut}

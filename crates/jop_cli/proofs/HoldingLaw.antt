@@ -1,7 +1,7 @@
 -- A bound of a method holds of the run of what was linked.
 use Rattle.std.proofs.Common.{ℕ, zero, suc, List, refl, sym, subst}
 use Rattle.class_pool.specs.declared.class.ClassFile.{ClassFile}
-use Rattle.memory_timing.specs.declared.Config.{Config}
+use Rattle.machine_memory.specs.declared.timing.Config.{Config}
 use Rattle.jop_core.specs.State as machine
 use Rattle.jop_core.specs.Reset.{linked_reset}
 use Rattle.method_flow.specs.declared.timing.Timing.{Timing}

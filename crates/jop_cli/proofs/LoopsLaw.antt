@@ -8,8 +8,8 @@ use Rattle.loop_rules.specs.declared.found.FoundLoop.{FoundLoop}
 use Rattle.loop_rules.specs.Sites.{int_at}
 use Rattle.class_pool.specs.declared.class.ClassFile.{ClassFile}
 use Rattle.program_tables.specs.Resolved.{resolved}
-use Rattle.counted_activations.specs.Found.{FoundLoopsCount}
-use Rattle.counted_activations.specs.FurtherRuns.{FurtherFoundLoopsCount}
+use Rattle.activation_laws.specs.Counted.Found.{FoundLoopsCount}
+use Rattle.activation_laws.specs.Counted.FurtherRuns.{FurtherFoundLoopsCount}
 use Rattle.commands.specs.declared.outcome.Answer.{Answer}
 use Rattle.commands.specs.declared.outcome.Answer.TheVariants.{Text, Ends}
 use Rattle.commands.specs.declared.outcome.Ending.{Ending}

@@ -8,7 +8,7 @@ use Rattle.class_pool.specs.declared.class.ClassFile.{ClassFile}
 use Rattle.bytecode_model.specs.Program.{Program, body_of}
 use Rattle.program_tables.specs.Resolved.{resolved}
 use Rattle.program_resolution.specs.Resolving.{IsProgramOf}
-use Rattle.linked_methods.specs.Fitting.{MethodFits, IsFirst, code_blocks}
+use Rattle.jopizer.specs.Methods.Fitting.{MethodFits, IsFirst, code_blocks}
 use Rattle.image_file.specs.Linked as file
 use Rattle.image_words.specs.Regions.{image_words_of}
 use Rattle.slot_table.specs.declared.slot.Slot.{Slot}
@@ -18,12 +18,12 @@ use Rattle.analysis_commands.specs.declared.check.CheckRefusal.{CheckRefusal}
 use Rattle.analysis_commands.specs.declared.check.CheckRefusal.TheVariants as check
 use Rattle.analysis_commands.specs.declared.bound.NotBounded.{NotBounded}
 use Rattle.analysis_commands.specs.declared.bound.NotBounded.TheVariants as bound
-use Rattle.analysis_commands.specs.declared.plan.NotPlanned.{NotPlanned}
-use Rattle.analysis_commands.specs.declared.plan.NotPlanned.TheVariants as plans
+use Rattle.slot_plans.specs.declared.plan.NotPlanned.{NotPlanned}
+use Rattle.slot_plans.specs.declared.plan.NotPlanned.TheVariants as plans
 use Rattle.analysis_commands.specs.Analysis.{IsAnalysisFault}
 use Rattle.analysis_commands.specs.Checking.{IsCheckRefusal}
 use Rattle.analysis_commands.specs.Bounding.{IsNotBounded}
-use Rattle.analysis_commands.specs.Plan.{IsNotPlanned}
+use Rattle.slot_plans.specs.Plan.{IsNotPlanned}
 use Rattle.run_devices.specs.Lent.{Lent}
 use Rattle.command_line.specs.declared.command.Settings.{Settings}
 use Rattle.jopizer.specs.Linked.{Parts, IsLinked, image_of}

@@ -4,11 +4,11 @@ use Rattle.class_pool.specs.declared.class.ClassFile.{ClassFile}
 use Rattle.program_tables.specs.Resolved.{resolved}
 use Rattle.program_tables.specs.Resolving.{IsResolved}
 use Rattle.method_flow.specs.Keeping.{BoundOf, WalkKeeps}
-use Rattle.loop_bounds.specs.Bounds.{LoopBound}
-use Rattle.loop_bounds.specs.Grammar.{IsRead}
+use Rattle.bound_texts.specs.Loops.Bounds.{LoopBound}
+use Rattle.bound_texts.specs.Loops.Grammar.{IsRead}
 use Rattle.loop_rules.specs.Sites.{int_at}
-use Rattle.counted_activations.specs.Others.{CountsWithin, KeepsOthers, WalkKeepsBut}
-use Rattle.counted_activations.specs.Found.{FoundLoopsCount}
+use Rattle.activation_laws.specs.Counted.Others.{CountsWithin, KeepsOthers, WalkKeepsBut}
+use Rattle.activation_laws.specs.Counted.Found.{FoundLoopsCount}
 use Rattle.source_headers.specs.Files.{IsHeaderFile}
 use Rattle.source_headers.specs.Laws.{line_bound, place_bound}
 use Rattle.source_headers.specs.Whole.{HeaderFilesAreRead, FilesBoundHeaders, FileBoundsAreFoundOrSaid}

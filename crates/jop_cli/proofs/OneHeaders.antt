@@ -5,7 +5,7 @@ use Rattle.std.specs.List.{concat}
 use Rattle.class_pool.specs.declared.class.ClassFile.{ClassFile}
 use Rattle.bytecode_model.specs.Program.{Program}
 use Rattle.program_tables.specs.Resolved.{resolved}
-use Rattle.method_names.specs.Written.{written_name}
+use Rattle.name_laws.specs.Written.{written_name}
 use Rattle.compact_walks.specs.Laws.{GraphsAreMoved, EndsAreOne}
 use Rattle.bound_rules.specs.Laws.{GraphsAreOne}
 use Rattle.bound_rules.specs.Bounding.{IsLeftWith}
@@ -16,8 +16,8 @@ use Rattle.bound_laws.proofs.Rising.{same_numbers}
 use Rattle.bound_laws.proofs.CompactOnes.{left_is_one}
 use Rattle.loop_rules.specs.declared.found.FoundLoop.{FoundLoop}
 use Rattle.loop_rules.specs.Sites.{int_at}
-use Rattle.source_bounds.specs.Notes.{Note}
-use Rattle.source_bounds.specs.Laws.{GivesOne}
+use Rattle.bound_texts.specs.Sources.Notes.{Note}
+use Rattle.bound_texts.specs.Sources.Laws.{NotesGiveOne}
 use Rattle.source_headers.specs.Headers.{IsMethodText, method_lines, header_lines, header_at, irreducible_line}
 use Rattle.source_headers.specs.Files.{IsHeaderFile, AreMethodTexts}
 use Rattle.jop_cli.specs.promises.Headers.{HeaderFilesAreOne}
@@ -64,7 +64,7 @@ module _ (moves : GraphsAreMoved) (ends : EndsAreOne) (graphs : GraphsAreOne) wh
       same_lists xs ys (λ m below. (b.coded m).0 ((a.coded m).1 below)) (λ m below. (a.coded m).0 ((b.coded m).1 below))
       (λ m x y at there. one_text (resolved cs) cs notes found (written_name cs) m x y (a.each m x at) (b.each m y there))
 
-  pub header_files_are_one : GivesOne → HeaderFilesAreOne
+  pub header_files_are_one : NotesGiveOne → HeaderFilesAreOne
   header_files_are_one gives cs lines text other a b =
       let notes : a.notes ≡ b.notes = gives lines a.notes b.notes a.read b.read in
       let found : a.found ≡ b.found = counted_one (resolved cs) (int_at a.constants) (int_at b.constants) a.found b.found (same_constants cs a.constants b.constants a.are b.are) a.counted b.counted in

@@ -11,9 +11,9 @@ use Rattle.loop_nest.specs.Digraph.{IsBefore}
 use Rattle.loop_rules.specs.declared.found.FoundLoop.{FoundLoop}
 use Rattle.loop_rules.specs.Finding.{AreCountedLoops, places_of}
 use Rattle.loop_rules.specs.Sites.{int_at}
-use Rattle.int_sites.specs.Constants.{AreConstants}
-use Rattle.further_rules.specs.Known.{Known}
-use Rattle.further_rules.specs.Arrays.{IsKnownBy}
+use Rattle.program_sites.specs.Ints.Constants.{AreConstants}
+use Rattle.loop_rules.specs.Further.Known.{Known}
+use Rattle.loop_rules.specs.Further.Arrays.{IsKnownBy}
 use Rattle.loop_finder.specs.Further.{AreCountedFurther}
 use Rattle.analysis_commands.specs.Analysis.{named_or_number}
 use Rattle.analysis_commands.specs.Loops.{AreLoopLines, AreFurtherLines, found_line}

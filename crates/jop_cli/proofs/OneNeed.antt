@@ -5,9 +5,9 @@ use Rattle.std.specs.declared.alloc.Global.{Global}
 use Rattle.class_pool.specs.declared.class.ClassFile.{ClassFile}
 use Rattle.program_tables.specs.Resolved.{resolved}
 use Rattle.bytecode_model.specs.Program.{Program}
-use Rattle.loop_bounds.specs.declared.BoundsFault.TheVariants as text_faults
-use Rattle.loop_bounds.specs.Bounds.{LoopBound}
-use Rattle.loop_bounds.specs.Laws.{GivesOne, ReadIsNotRefused, LengthsGiveOne, ReadLengthsAreNotRefused}
+use Rattle.bound_texts.specs.declared.loops.BoundsFault.TheVariants as text_faults
+use Rattle.bound_texts.specs.Loops.Bounds.{LoopBound}
+use Rattle.bound_texts.specs.Loops.Laws.{GivesOne, ReadIsNotRefused, LengthsGiveOne, ReadLengthsAreNotRefused}
 use Rattle.method_flow.specs.Keeping.{BoundOf}
 use Rattle.memory_rules.specs.declared.causes.NeedCause.{NeedCause}
 use Rattle.memory_rules.specs.declared.causes.NeedCause.TheVariants as causes

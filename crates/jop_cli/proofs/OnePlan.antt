@@ -8,12 +8,12 @@ use Rattle.program_tables.specs.Resolved.{resolved}
 use Rattle.bytecode_model.specs.Program.{Program, body_of}
 use Rattle.bytecode_typing.specs.Typed.{Typing, Typed}
 use Rattle.bytecode_typing.specs.Lawful.{Lawful}
-use Rattle.loop_bounds.specs.Bounds.{LoopBound}
-use Rattle.loop_bounds.specs.Laws.{GivesOne}
+use Rattle.bound_texts.specs.Loops.Bounds.{LoopBound}
+use Rattle.bound_texts.specs.Loops.Laws.{GivesOne}
 use Rattle.method_flow.specs.Calls.{IsTarget}
 use Rattle.method_flow.specs.Keeping.{BoundOf}
 use Rattle.method_flow.specs.declared.timing.Timing.{Timing}
-use Rattle.method_graphs.specs.Laws.{TypedMethodsReachStarts}
+use Rattle.method_runs.specs.TypedGraphs.Laws.{TypedMethodsReachStarts}
 use Rattle.slot_table.specs.declared.slot.Slot.{Slot}
 use Rattle.slot_table.specs.Executive.{call_place}
 use Rattle.bound_rules.specs.Bounding.{HasNoRecursion}
@@ -21,7 +21,7 @@ use Rattle.bound_rules.specs.Laws.{MethodsHaveCode, PrintedIsOne}
 use Rattle.bound_rules.specs.Numbers.{IsPrinted}
 use Rattle.bound_laws.specs.Existing.{CallsEndWithoutRecursion}
 use Rattle.analysis_commands.specs.Analysis.{bounds_of, named_or_number, timing_of}
-use Rattle.analysis_commands.specs.Plan.{IsPlan, IsPlanOf, IsSlotMethod, IsSlotBound, IsCyclicMain, KeepsLength, plan_lines_from}
+use Rattle.slot_plans.specs.Plan.{IsPlan, IsPlanOf, IsSlotMethod, IsSlotBound, IsCyclicMain, KeepsLength, plan_lines_from}
 use Rattle.jop_cli.specs.promises.Plan.{PlansAreOne}
 use Rattle.jop_cli.proofs.Least.{one_least}
 

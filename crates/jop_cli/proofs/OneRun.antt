@@ -20,8 +20,8 @@ use Rattle.boundary.proofs.Answered.{reached}
 use Rattle.bytecode_model.specs.declared.Ending.{Ending as Mode}
 use Rattle.bytecode_model.specs.declared.Ending.TheVariants as modes
 use Rattle.class_pool.specs.declared.class.ClassFile.{ClassFile}
-use Rattle.memory_timing.specs.declared.Config.{Config}
-use Rattle.memory_timing.specs.Port.{idle, padded}
+use Rattle.machine_memory.specs.declared.timing.Config.{Config}
+use Rattle.machine_memory.specs.Timing.Port.{idle, padded}
 use Rattle.method_cache.specs.Contents.{empty, loaded}
 use Rattle.jop_core.specs.Reset.{reset_words, linked_start, linked_reset}
 use Rattle.run_devices.specs.Lent.{wired}

@@ -5,8 +5,8 @@ use Rattle.slot_table.specs.declared.slot.Slot.{Slot}
 use Rattle.slot_table.specs.declared.table.TableFault.{TableFault}
 use Rattle.slot_table.specs.declared.table.TableFault.TheVariants as tables
 use Rattle.command_line.specs.declared.command.Settings.{Settings}
-use Rattle.analysis_commands.specs.declared.plan.NotPlanned.{NotPlanned}
-use Rattle.analysis_commands.specs.declared.plan.NotPlanned.TheVariants as plans
+use Rattle.slot_plans.specs.declared.plan.NotPlanned.{NotPlanned}
+use Rattle.slot_plans.specs.declared.plan.NotPlanned.TheVariants as plans
 use Rattle.commands.specs.declared.outcome.Answer.{Answer}
 use Rattle.commands.specs.declared.outcome.Answer.TheVariants.{Text, Ends}
 use Rattle.commands.specs.declared.outcome.Ending.{Ending}

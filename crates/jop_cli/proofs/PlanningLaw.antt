@@ -10,7 +10,7 @@ use Rattle.jop_core.specs.Reset.{linked_reset}
 use Rattle.slot_table.specs.declared.slot.Slot.{Slot}
 use Rattle.slot_table.specs.Laws.{GivesOne, ReadIsNotRefused}
 use Rattle.slot_table.specs.Executive.{call_place}
-use Rattle.activation_watch.specs.declared.slots.Slots.{Slots}
+use Rattle.run_follower.specs.declared.watch.slots.Slots.{Slots}
 use Rattle.activations.specs.Setting.{Setting}
 use Rattle.activations.specs.Activations.{Stage}
 use Rattle.activations.specs.Warrant.{BoundsActivations}
@@ -18,13 +18,13 @@ use Rattle.activation_laws.specs.Profiled.{FirstHasTiming}
 use Rattle.activation_laws.specs.Called.{CalledKeepBounds}
 use Rattle.method_flow.specs.declared.timing.Timing.{Timing}
 use Rattle.method_flow.specs.Calls.{IsTarget}
-use Rattle.bound_sound.specs.Laws.{CertificatesAreSound}
+use Rattle.bound_laws.specs.Soundness.Laws.{CertificatesAreSound}
 use Rattle.boundary.specs.Followed.{RunsAreInARow}
 use Rattle.run_devices.specs.Lent.{wired}
 use Rattle.command_line.specs.declared.command.Settings.{Settings}
 use Rattle.command_line.specs.declared.command.Command.TheVariants as commands
 use Rattle.analysis_commands.specs.Analysis.{timing_of, bounds_of, named_or_number}
-use Rattle.analysis_commands.specs.Plan.{IsCyclicMain}
+use Rattle.slot_plans.specs.Plan.{IsCyclicMain}
 use Rattle.jopizer.specs.Linked.{Parts}
 use Rattle.commands.specs.declared.outcome.Answer.{Answer}
 use Rattle.commands.specs.declared.outcome.Answer.TheVariants.{Text, Ends}

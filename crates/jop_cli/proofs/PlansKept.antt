@@ -8,13 +8,13 @@ use Rattle.outside.specs.Outside.{Grew}
 use Rattle.jop_core.specs.Reset.{linked_reset}
 use Rattle.slot_table.specs.declared.slot.Slot.{Slot}
 use Rattle.slot_table.specs.Slots.{length_of}
-use Rattle.activation_watch.specs.declared.activation.Activation.{Activation}
-use Rattle.activation_watch.specs.declared.slots.Slots.{Slots}
-use Rattle.activation_watch.specs.Watched.{activations, is_slot, is_of_slot, is_late, slots_from, cycles_of}
+use Rattle.run_follower.specs.declared.watch.activation.Activation.{Activation}
+use Rattle.run_follower.specs.declared.watch.slots.Slots.{Slots}
+use Rattle.run_follower.specs.Watch.Watched.{activations, is_slot, is_of_slot, is_late, slots_from, cycles_of}
 use Rattle.activation_laws.specs.Seen.{ActivationsAreSeen}
 use Rattle.activations.specs.Setting.{Setting}
 use Rattle.activations.specs.Activations.{Stage}
-use Rattle.bound_sound.specs.Laws.{CertificatesAreSound}
+use Rattle.bound_laws.specs.Soundness.Laws.{CertificatesAreSound}
 use Rattle.boundary.specs.Followed.{RunsAreInARow}
 use Rattle.run_devices.specs.Lent.{wired}
 use Rattle.command_line.specs.declared.command.Settings.{Settings}

@@ -17,9 +17,9 @@ use Rattle.class_pool.specs.declared.class.ClassFile.{ClassFile}
 use Rattle.jop_core.specs.Reset.{linked_reset}
 use Rattle.answer_lines.specs.declared.line.Counts.{Counts}
 use Rattle.run_follower.specs.Following.{followed}
-use Rattle.activation_watch.specs.declared.profile.Profile.{Profile}
-use Rattle.activation_watch.specs.Counting.{Totals, totals_after, no_totals}
-use Rattle.activation_watch.specs.Promises.{rows_of, EachHasARow, ProfilesAreExact}
+use Rattle.run_follower.specs.declared.watch.profile.Profile.{Profile}
+use Rattle.run_follower.specs.Watch.Counting.{Totals, totals_after, no_totals}
+use Rattle.run_follower.specs.Watch.Promises.{rows_of, EachHasARow, ProfilesAreExact}
 use Rattle.activation_laws.specs.Profiled.{SeenAreWithin}
 use Rattle.boundary.specs.declared.runs.RunEnd.{RunEnd}
 use Rattle.boundary.specs.declared.runs.RunEnd.TheVariants as ends

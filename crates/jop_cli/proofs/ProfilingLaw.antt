@@ -5,18 +5,18 @@ use Rattle.lists.proofs.Lemmas.{some_same}
 use Rattle.class_pool.specs.declared.class.ClassFile.{ClassFile}
 use Rattle.outside.specs.Files.{AreFiles}
 use Rattle.bytecode_model.specs.Program.{body_of}
-use Rattle.loop_bounds.specs.Bounds.{LoopBound}
-use Rattle.loop_bounds.specs.Laws.{ReadIsNotRefused}
-use Rattle.loop_bounds.specs.declared.BoundsFault.TheVariants as texts
+use Rattle.bound_texts.specs.Loops.Bounds.{LoopBound}
+use Rattle.bound_texts.specs.Loops.Laws.{ReadIsNotRefused}
+use Rattle.bound_texts.specs.declared.loops.BoundsFault.TheVariants as texts
 use Rattle.program_tables.specs.Resolved.{resolved}
 use Rattle.jop_core.specs.Reset.{linked_reset}
 use Rattle.activations.specs.Setting.{Setting}
 use Rattle.activations.specs.Activations.{Stage}
 use Rattle.activations.specs.Warrant.{BoundsActivations}
-use Rattle.activation_watch.specs.declared.profile.Profile.{Profile}
-use Rattle.activation_watch.specs.Watched.{activations, of_method, profile_of}
+use Rattle.run_follower.specs.declared.watch.profile.Profile.{Profile}
+use Rattle.run_follower.specs.Watch.Watched.{activations, of_method, profile_of}
 use Rattle.activation_laws.specs.Profiled.{FirstHasTiming, ProfileIsWithin, ProfilesKeepBounds}
-use Rattle.bound_sound.specs.Laws.{CertificatesAreSound}
+use Rattle.bound_laws.specs.Soundness.Laws.{CertificatesAreSound}
 use Rattle.std.specs.declared.result.Result.{Result}
 use Rattle.device_traits.specs.declared.fault.DeviceFault.{DeviceFault}
 use Rattle.answer_lines.specs.declared.line.Counts.{Counts}
@@ -26,7 +26,7 @@ use Rattle.boundary.specs.Followed.{RunsAreInARow}
 use Rattle.method_bounds.specs.declared.answer.BoundAnswer.{BoundAnswer}
 use Rattle.method_bounds.specs.declared.answer.BoundAnswer.TheVariants.{Cycles, Never, Refused}
 use Rattle.method_bounds.specs.Answers.{IsBoundAnswer}
-use Rattle.wcet.specs.Certified.{IsCertified}
+use Rattle.bound_finder.specs.Certified.{IsCertified}
 use Rattle.run_devices.specs.Lent.{Lent, wired}
 use Rattle.command_line.specs.declared.command.Settings.{Settings}
 use Rattle.command_line.specs.declared.command.Command.TheVariants as commands

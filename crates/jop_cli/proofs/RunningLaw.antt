@@ -9,7 +9,7 @@ use Rattle.jop_core.specs.Reset.{bare_reset, linked_reset}
 use Rattle.boundary.specs.Setting.{bare_setting}
 use Rattle.bytecode_model.specs.Program.{Body, body_of}
 use Rattle.program_tables.specs.Resolved.{resolved}
-use Rattle.linked_methods.specs.Fitting.{code_blocks}
+use Rattle.jopizer.specs.Methods.Fitting.{code_blocks}
 use Rattle.command_line.specs.declared.command.Settings.{Settings}
 use Rattle.command_line.specs.declared.command.Command.TheVariants.{Run, Trace}
 use Rattle.jopizer.specs.declared.refusal.LinkRefusal.{LinkRefusal}

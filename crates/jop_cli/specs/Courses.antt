@@ -2,7 +2,7 @@
 use Rattle.std.specs.Prelude.{◌≡◌, ℕ, ◌≤◌, Bool, List, [], Some, Vec}
 use Rattle.std.specs.declared.alloc.Global.{Global}
 use Rattle.class_pool.specs.declared.class.ClassFile.{ClassFile}
-use Rattle.memory_timing.specs.declared.Config.{Config}
+use Rattle.machine_memory.specs.declared.timing.Config.{Config}
 use Rattle.image_file.specs.Bare.{BareContent}
 use Rattle.device_traits.specs.Told.{Told, GivesEach}
 use Rattle.outside.specs.Outside.{Grew}

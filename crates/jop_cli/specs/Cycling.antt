@@ -4,20 +4,20 @@ use Rattle.std.specs.Prelude.{◌≡◌, ℕ, ◌^◌, ◌<◌, ◌≤◌, ◌�
 use Rattle.outside.specs.Files.{OnlyWords, AreFiles}
 use Rattle.class_pool.specs.declared.class.ClassFile.{ClassFile}
 use Rattle.program_tables.specs.Resolved.{resolved}
-use Rattle.memory_timing.specs.declared.Config.{Config}
+use Rattle.machine_memory.specs.declared.timing.Config.{Config}
 use Rattle.jop_core.specs.State as machine
 use Rattle.jop_core.specs.Reset.{linked_reset}
 use Rattle.slot_table.specs.declared.slot.Slot.{Slot}
 use Rattle.slot_table.specs.Slots.{length_of}
-use Rattle.activation_watch.specs.declared.slots.Slots.{Slots}
-use Rattle.activation_watch.specs.Watched.{slots_of}
-use Rattle.activation_watch.specs.Counting.{SlotCount, no_slots}
+use Rattle.run_follower.specs.declared.watch.slots.Slots.{Slots}
+use Rattle.run_follower.specs.Watch.Watched.{slots_of}
+use Rattle.run_follower.specs.Watch.Counting.{SlotCount, no_slots}
 use Rattle.boundary.specs.Setting.{Setting}
 use Rattle.run_devices.specs.Lent.{Lent, wired}
 use Rattle.jopizer.specs.Linked.{Parts}
 use Rattle.command_line.specs.declared.command.Settings.{Settings}
 use Rattle.analysis_commands.specs.Analysis.{named_or_number}
-use Rattle.analysis_commands.specs.Plan.{IsExecutive}
+use Rattle.slot_plans.specs.Plan.{IsExecutive}
 use Rattle.answer_lines.specs.declared.line.Counts.{Counts}
 use Rattle.answer_lines.specs.declared.line.SlotCounts.{SlotCounts}
 use Rattle.commands.specs.declared.program_end.ProgramEnd.{ProgramEnd}

@@ -7,9 +7,9 @@ use Rattle.slot_table.specs.declared.slot.Slot.{Slot}
 use Rattle.jopizer.specs.Linked.{Parts}
 use Rattle.command_line.specs.declared.command.Settings.{Settings}
 use Rattle.answer_lines.specs.declared.unanswered.Cause.TheVariants.{Plan}
-use Rattle.analysis_commands.specs.declared.plan.NotPlanned.{NotPlanned}
-use Rattle.analysis_commands.specs.declared.plan.NotPlanned.TheVariants as plans
-use Rattle.analysis_commands.specs.Plan.{IsPlan, IsNotPlanned}
+use Rattle.slot_plans.specs.declared.plan.NotPlanned.{NotPlanned}
+use Rattle.slot_plans.specs.declared.plan.NotPlanned.TheVariants as plans
+use Rattle.slot_plans.specs.Plan.{IsPlan, IsNotPlanned}
 use Rattle.commands.specs.declared.outcome.Answer.{Answer}
 use Rattle.commands.specs.declared.outcome.Answer.TheVariants.{Text, Ends}
 use Rattle.commands.specs.declared.outcome.Ending.{Ending}

@@ -6,7 +6,7 @@ use Rattle.outside.specs.Outside.{Grew}
 use Rattle.outside.specs.Files.{OnlyWords, AreFiles}
 use Rattle.class_pool.specs.declared.class.ClassFile.{ClassFile}
 use Rattle.program_tables.specs.Resolved.{resolved}
-use Rattle.memory_timing.specs.declared.Config.{Config}
+use Rattle.machine_memory.specs.declared.timing.Config.{Config}
 use Rattle.jop_core.specs.State as machine
 use Rattle.jop_core.specs.Reset.{linked_reset}
 use Rattle.image_file.specs.Bare.{BareContent, IsBareFile}
@@ -15,11 +15,11 @@ use Rattle.jopizer.specs.Linked.{Parts, IsLinked, image_of}
 use Rattle.bytecode_model.specs.Program.{Program, body_of}
 use Rattle.method_flow.specs.Keeping.{BoundOf}
 use Rattle.method_flow.specs.declared.timing.Timing.{Timing}
-use Rattle.loop_bounds.specs.Bounds.{LoopBound}
-use Rattle.loop_bounds.specs.Grammar.{IsRead}
+use Rattle.bound_texts.specs.Loops.Bounds.{LoopBound}
+use Rattle.bound_texts.specs.Loops.Grammar.{IsRead}
 use Rattle.run_follower.specs.declared.here.Here.{Here}
-use Rattle.activation_watch.specs.declared.profile.Profile.{Profile}
-use Rattle.activation_watch.specs.Watched.{activations, of_method, profile_of}
+use Rattle.run_follower.specs.declared.watch.profile.Profile.{Profile}
+use Rattle.run_follower.specs.Watch.Watched.{activations, of_method, profile_of}
 use Rattle.boundary.specs.Setting.{Setting}
 use Rattle.bound_rules.specs.Told.{Value}
 use Rattle.method_bounds.specs.declared.answer.BoundAnswer.{BoundAnswer}

@@ -15,9 +15,7 @@ ghost use Rattle.jop_cli.specs.Cycling.{counts_with, with_slots, IsCounter, Cycl
 
 use crate::asking::operand;
 use activation_laws::seen_are_within;
-use activation_watch::laws::slots_are_exact;
-use activation_watch::{SlotCounter, Slots};
-use analysis_commands::{executive_method, table_of};
+use analysis_commands::table_of;
 use answer_lines::{Counts, SlotCounts};
 use base::NoMemory;
 use boundary::laws::runs_are_in_a_row;
@@ -32,6 +30,9 @@ use jop_core::NoWatch;
 use jopizer::Linked;
 use outside::{Files, Sink, Source};
 use refusal_lines::name_room;
+use run_follower::watch::laws::slots_are_exact;
+use run_follower::watch::{SlotCounter, Slots};
+use slot_plans::executive_method;
 use slot_table::{SlotTable, read_table};
 use std::alloc::Global;
 

@@ -23,22 +23,22 @@ ghost use Rattle.jop_cli.specs.promises.Runs.{RunsAreShown, RunsComeToBoundaries
 ghost use Rattle.jop_cli.specs.promises.Refusals.{NoCommandIsRefused, LongFilesAreRefused, BadImagesAreRefused, UnlinkedImagesAreRefused};
 ghost use Rattle.jop_cli.specs.promises.Refusals.{DifferingImagesAreRefused, LongMethodsAreRefused, LongBareCodesAreRefused, SmallMemoriesAreRefused};
 
-use activation_laws::{activations_are_seen, called_keep_bounds, profiles_keep_bounds};
-use activations::laws::{places_tell_words, steps_are_told};
-use bound_rules::laws::{faults_are_one, graphs_are_one, refused_is_not_met};
-use bound_sound::certificates_are_sound;
-use bound_sound::loads::{activations_load_once, loads_are_misses, stays_load_once};
-use boundary::laws::runs_are_in_a_row;
-use counted_activations::laws::{
+use activation_laws::counted::laws::{
     boot_holds_constants, counted_loops_of_runs, found_loops_count, further_found_loops_count,
     further_loops_of_runs,
 };
+use activation_laws::{activations_are_seen, called_keep_bounds, profiles_keep_bounds};
+use activations::laws::{places_tell_words, steps_are_told};
+use bound_laws::soundness::certificates_are_sound;
+use bound_laws::soundness::loads::{activations_load_once, loads_are_misses, stays_load_once};
+use bound_rules::laws::{faults_are_one, graphs_are_one, refused_is_not_met};
+use bound_texts::loops::laws::{
+    gives_one, lengths_give_one, read_is_not_refused, read_lengths_are_not_refused,
+};
+use boundary::laws::runs_are_in_a_row;
 use jopizer::laws::{
     linked_files_are_not_refused, linked_images_are_read, main_is_there, one_linked,
     refusals_are_one,
-};
-use loop_bounds::laws::{
-    gives_one, lengths_give_one, read_is_not_refused, read_lengths_are_not_refused,
 };
 
 /// Class files that nothing refuses are linked, and what refuses them is answered, which is one refusal.
@@ -97,7 +97,7 @@ pub fn checking_is_exact()
     linked_images_are_read();
     gives_one();
     read_is_not_refused();
-    bound_cert::has_one_certificate();
+    certificates::has_one_certificate();
     refused_is_not_met();
     faults_are_one();
 }
@@ -117,7 +117,7 @@ pub fn bounding_is_exact()
     read_is_not_refused();
     bound_laws::laws::refusals_are_one();
     bound_laws::laws::own_costs_exist();
-    method_names::laws::written_names_are_one();
+    name_laws::laws::written_names_are_one();
     bound_laws::laws::resolved_codes_are_short();
 }
 
@@ -191,7 +191,7 @@ pub fn plans_are_one()
     bound_rules::laws::numbers_are_one();
     bound_laws::laws::calls_end_without_recursion();
     bound_rules::laws::methods_have_code();
-    method_graphs::laws::typed_methods_reach_starts();
+    method_runs::typed_graphs::laws::typed_methods_reach_starts();
 }
 
 /// Where there is a plan, the slots of a cycle keep their lengths, and its line says that none was late.
@@ -221,7 +221,7 @@ pub fn loops_count()
     counted_laws::laws::counted_loops_are_further();
     boot_holds_constants();
     counted_laws::laws::boot_holds_known();
-    further_rules::laws::puts_keep_arrays();
+    loop_rules::further::laws::puts_keep_arrays();
     found_loops_count();
     further_found_loops_count();
     places_tell_words();
@@ -242,7 +242,7 @@ pub fn headers_bound_loops()
     graphs_are_one();
     compact_walks::laws::graphs_are_moved();
     compact_walks::laws::ends_are_one();
-    source_bounds::laws::gives_one();
+    bound_texts::sources::laws::gives_one();
     source_headers::laws::header_files_are_read();
     source_headers::laws::files_bound_headers();
     source_headers::laws::roots_have_lines();

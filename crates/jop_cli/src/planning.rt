@@ -11,7 +11,6 @@ ghost use Rattle.slot_table.specs.Grammar.{IsTableRead};
 ghost use Rattle.jop_cli.specs.Planning.{plan_ending, AnswersPlan, Plans, PlansFiles};
 
 use crate::asking::{operand, operand_text, put_answer};
-use analysis_commands::{NotPlanned, plan_lines};
 use answer_lines::Cause;
 use command_line::Settings;
 use commands::checking::fault_ending;
@@ -20,6 +19,7 @@ use commands::linking::read_operands;
 use commands::outcome::{Answer, Ending};
 use jopizer::Linked;
 use outside::{Files, Sink};
+use slot_plans::{NotPlanned, plan_lines};
 use slot_table::{SlotTable, read_table};
 use std::alloc::Global;
 

@@ -10,7 +10,7 @@ ghost use Rattle.outside.specs.Files.{contents, AreFiles};
 ghost use Rattle.outside.specs.Outside.{Rose};
 ghost use Rattle.refusal_lines.specs.Room.{HasRoom};
 ghost use Rattle.run_devices.specs.Lent.{lent};
-ghost use Rattle.activation_watch.specs.Counting.{no_totals};
+ghost use Rattle.run_follower.specs.Watch.Counting.{no_totals};
 ghost use Rattle.method_bounds.specs.Lines.{name_in};
 ghost use Rattle.method_bounds.specs.Profiles.{profile_lines};
 ghost use Rattle.commands.specs.World.{world};
@@ -24,10 +24,9 @@ ghost use Rattle.jop_cli.specs.Profiling.{PutsProfile, ProfilesWith, ProfilesHel
 
 use crate::asking::operand;
 use activation_laws::seen_are_within;
-use activation_watch::MethodTotals;
-use activation_watch::laws::{profiles_are_exact, profiles_are_told};
 use analysis_commands::{bounds_in, table_of, timing_of};
 use base::NoMemory;
+use bound_texts::loops::Bounds;
 use boundary::laws::runs_are_in_a_row;
 use boundary::uncaught_classes_are_there;
 use bytecode_verifier::Verified;
@@ -43,13 +42,14 @@ use commands::program_end::ProgramEnd;
 use commands::show::Show;
 use jop_core::{Bare, NoWatch};
 use jopizer::Linked;
-use loop_bounds::Bounds;
 use method_bounds::{BoundAnswer, method_bounds, put_profile};
 use method_flow::FlowProgram;
 use outside::{Files, Sink, Source};
 use refusal_lines::name_room;
 use resolved_program::Program;
 use run_devices::NoSink;
+use run_follower::watch::MethodTotals;
+use run_follower::watch::laws::{profiles_are_exact, profiles_are_told};
 use std::alloc::Global;
 
 /// What a profile is told with: the table of the program, what is answered of its methods, and the totals that follow the run.

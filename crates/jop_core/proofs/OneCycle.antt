@@ -2,14 +2,14 @@
 use Rattle.std.proofs.Common.{◌≡◌, ◌≢◌, ℕ, ◌%◌, ◌^◌, ◌∙◌, refl, sym, ap, Bool, false, cond, nat_lt, subst, arith, List, [], ◌∷◌, Some, None}
 use Rattle.std.specs.Prelude.{slice_index, Ok, Err}
 use Rattle.std.specs.declared.option.Option.{Option}
-use Rattle.micro_isa.specs.declared.Body.{Body}
-use Rattle.micro_isa.specs.declared.Body.TheVariants.{Plain, Stm, Ldm, Ldi, Bz, Bnz, Jmp}
-use Rattle.micro_isa.specs.declared.Micro.{Micro}
-use Rattle.micro_isa.specs.declared.operation.Operation.{Operation}
-use Rattle.micro_isa.specs.declared.operation.Operation.TheVariants.{Ldin}
-use Rattle.micro_isa.specs.Operations.{operation_of}
-use Rattle.micro_isa.specs.Words.{micro_of}
-use Rattle.microcode_rom.specs.declared.TheConstants.{WORDS}
+use Rattle.microcode.specs.declared.isa.Body.{Body}
+use Rattle.microcode.specs.declared.isa.Body.TheVariants.{Plain, Stm, Ldm, Ldi, Bz, Bnz, Jmp}
+use Rattle.microcode.specs.declared.isa.Micro.{Micro}
+use Rattle.microcode.specs.declared.isa.operation.Operation.{Operation}
+use Rattle.microcode.specs.declared.isa.operation.Operation.TheVariants.{Ldin}
+use Rattle.microcode.specs.Isa.Operations.{operation_of}
+use Rattle.microcode.specs.Isa.Words.{micro_of}
+use Rattle.microcode.specs.declared.TheConstants.{WORDS}
 use Rattle.jop_core.specs.declared.halt.Halt.TheVariants.{Running}
 use Rattle.jop_core.specs.declared.tick.Tick.TheVariants.{Went}
 use Rattle.device_traits.specs.declared.fault.DeviceFault.{DeviceFault}

@@ -4,8 +4,8 @@ use Rattle.std.specs.Prelude.{slice_index}
 use Rattle.std.proofs.Math.ListN.{set}
 use Rattle.std.proofs.Math.Seq.{set-append_seam}
 use Rattle.std.proofs.lemmas.List.{take_more, length-take-le}
-use Rattle.stack_cache.specs.Size.{IsSize}
-use Rattle.microcode_rom.specs.declared.TheConstants.{CONSTANTS}
+use Rattle.machine_memory.specs.Stack.Size.{IsSize}
+use Rattle.microcode.specs.declared.TheConstants.{CONSTANTS}
 use Rattle.jop_core.specs.declared.machine.reset.Boot.{Boot}
 use Rattle.jop_core.specs.Reset.{places}
 use Rattle.jop_core.specs.Starts.{first_words}

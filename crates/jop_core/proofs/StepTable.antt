@@ -5,9 +5,9 @@ use Rattle.std.proofs.lemmas.Option.{get_or_from_slice_get}
 use Rattle.std.proofs.Math.ListN.{get_or-map}
 use Rattle.std.proofs.lemmas.Bool.{and_parts}
 use Rattle.std.specs.declared.option.Option.{Option}
-use Rattle.micro_isa.specs.declared.Micro.{Micro}
-use Rattle.micro_isa.specs.Words.{micro_of}
-use Rattle.microcode_rom.specs.declared.TheConstants.{WORDS}
+use Rattle.microcode.specs.declared.isa.Micro.{Micro}
+use Rattle.microcode.specs.Isa.Words.{micro_of}
+use Rattle.microcode.specs.declared.TheConstants.{WORDS}
 use Rattle.jop_core.specs.declared.steps.TheConstants.{STEPS}
 use Rattle.jop_core.specs.declared.steps.Action.{Action}
 use Rattle.jop_core.specs.declared.steps.Action.TheVariants.{Nop, Bz, Bnz, Jmp}

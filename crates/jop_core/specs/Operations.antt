@@ -2,12 +2,13 @@
 use Rattle.std.specs.Prelude.{ℕ, ◌+◌, ◌-◌, ◌*◌, ◌/◌, ◌%◌, ◌^◌, Bool, true, false, ◌==◌, ◌&&◌, nat_lt, nat_le, if◌then◌else◌, List, length, bit_and, bit_or}
 use Rattle.std.specs.Prelude.{bit_xor, slice_set, slice_index, slice_range, Some, None}
 use Rattle.std.specs.declared.option.Option.{Option}
-use Rattle.micro_isa.specs.declared.operation.Operation.{Operation}
-use Rattle.micro_isa.specs.declared.operation.Operation.TheVariants.{Nop, Pop, Dup, Add, Sub, And, Or, Xor, Shl, Shr, Ushr, Mul, Slt, Sltu, Ldo, Ldo8, Ldo16}
-use Rattle.micro_isa.specs.declared.operation.Operation.TheVariants.{Ldl, Stl, Ld0, Ld1, Ld2, Ld3, St0, St1, St2, St3, Ldvp, Stvp, Ldsp, Stsp, Ldjpc, Stjpc}
-use Rattle.micro_isa.specs.declared.operation.Operation.TheVariants.{Star, Ldmi, Stmi, Stmra, Stmwa, Stmwd, Wait, Ldmrd, Stbc, Jbr, Jbg, Ldin, Stout, Hltb}
-use Rattle.micro_isa.specs.declared.operation.Operation.TheVariants.{Hltu}
-use Rattle.memory_timing.specs.Port.{Port, read_started, write_started}
+use Rattle.microcode.specs.declared.isa.operation.Operation.{Operation}
+use Rattle.microcode.specs.declared.isa.operation.Operation.TheVariants.{Nop, Pop, Dup, Add, Sub, And, Or, Xor}
+use Rattle.microcode.specs.declared.isa.operation.Operation.TheVariants.{Shl, Shr, Ushr, Mul, Slt, Sltu, Ldo, Ldo8, Ldo16}
+use Rattle.microcode.specs.declared.isa.operation.Operation.TheVariants.{Ldl, Stl, Ld0, Ld1, Ld2, Ld3, St0, St1, St2, St3, Ldvp, Stvp, Ldsp, Stsp, Ldjpc, Stjpc}
+use Rattle.microcode.specs.declared.isa.operation.Operation.TheVariants.{Star, Ldmi, Stmi, Stmra, Stmwa, Stmwd, Wait, Ldmrd, Stbc, Jbr, Jbg, Ldin, Stout, Hltb}
+use Rattle.microcode.specs.declared.isa.operation.Operation.TheVariants.{Hltu}
+use Rattle.machine_memory.specs.Timing.Port.{Port, read_started, write_started}
 use Rattle.method_cache.specs.Contents.{can_load, is_cached, loaded}
 use Rattle.jop_core.specs.declared.halt.Halt.{Halt}
 use Rattle.jop_core.specs.declared.halt.Halt.TheVariants.{Ended, Uncaught}

@@ -1,10 +1,10 @@
 -- A machine at reset.
 use Rattle.std.specs.Prelude.{ℕ, ◌+◌, ◌-◌, ◌/◌, ◌%◌, ◌^◌, ◌≤◌, List, [], ◌∷◌, ◌++◌, length, replicate, slice_index, slice_range, Some, None, IsTrue}
 use Rattle.std.specs.declared.option.Option.{Option}
-use Rattle.memory_timing.specs.declared.Config.{Config}
-use Rattle.memory_timing.specs.Port.{idle, padded}
+use Rattle.machine_memory.specs.declared.timing.Config.{Config}
+use Rattle.machine_memory.specs.Timing.Port.{idle, padded}
 use Rattle.method_cache.specs.Contents.{empty, loaded, can_load}
-use Rattle.microcode_rom.specs.declared.TheConstants.{CONSTANTS}
+use Rattle.microcode.specs.declared.TheConstants.{CONSTANTS}
 use Rattle.jop_core.specs.declared.halt.Halt.TheVariants.{Running, Uncaught}
 use Rattle.jop_core.specs.declared.places.TheConstants.{POOL, STACK, RAISED}
 use Rattle.jop_core.specs.State.{MachineState}

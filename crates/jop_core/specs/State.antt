@@ -1,7 +1,7 @@
 -- A state of the machine.
 use Rattle.std.specs.Prelude.{ℕ, ◌^◌, ◌<◌, List}
-use Rattle.stack_cache.specs.Size.{IsSize, HoldsWords}
-use Rattle.memory_timing.specs.Port.{Port, IsInRange}
+use Rattle.machine_memory.specs.Stack.Size.{IsSize, HoldsWords}
+use Rattle.machine_memory.specs.Timing.Port.{Port, IsInRange}
 use Rattle.method_cache.specs.Contents.{Cache}
 use Rattle.jop_core.specs.declared.halt.Halt.{Halt}
 use Rattle.device_traits.specs.declared.seen.Seen.{Seen}

@@ -1,10 +1,10 @@
 -- What the decoded microinstructions mean.
 use Rattle.std.specs.Prelude.{ℕ, ◌+◌, ◌<◌, Bool, false, Some, None}
 use Rattle.std.specs.declared.option.Option.{Option}
-use Rattle.micro_isa.specs.declared.Body.{Body}
-use Rattle.micro_isa.specs.declared.Body.TheVariants as body
-use Rattle.micro_isa.specs.declared.Micro.{Micro}
-use Rattle.micro_isa.specs.Operations.{operation_of}
+use Rattle.microcode.specs.declared.isa.Body.{Body}
+use Rattle.microcode.specs.declared.isa.Body.TheVariants as body
+use Rattle.microcode.specs.declared.isa.Micro.{Micro}
+use Rattle.microcode.specs.Isa.Operations.{operation_of}
 use Rattle.jop_core.specs.declared.steps.Action.{Action}
 use Rattle.jop_core.specs.declared.steps.Action.TheVariants.{Nop, Pop, Dup, Add, Sub, And, Or, Xor, Shl, Shr, Ushr, Mul, Slt, Sltu, Ldo, Ldo8, Ldo16, Ldl, Stl}
 use Rattle.jop_core.specs.declared.steps.Action.TheVariants.{Ld0, Ld1, Ld2, Ld3, St0, St1, St2, St3, Ldvp, Stvp, Ldsp, Stsp, Ldjpc, Stjpc, Star, Ldmi, Stmi}

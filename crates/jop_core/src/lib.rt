@@ -16,5 +16,5 @@ pub use device_traits::{DeviceFault, Devices, MemWatch, NoWatch, Seen, Watch};
 pub use halt::Halt;
 pub use image_file::{Bare, BareFault, read_bare};
 pub use machine::{Machine, can_start, can_start_bare};
-pub use memory_timing::Config;
+pub use machine_memory::timing::Config;
 pub use tick::Tick;

@@ -16,11 +16,11 @@ use crate::halt::Halt;
 use crate::steps::{Action, Step, step_at};
 use crate::tick::Tick;
 use device_traits::{DeviceFault, Devices};
-use memory_timing::Memory;
+use machine_memory::stack::StackCache;
+use machine_memory::timing::Memory;
 use method_cache::MethodCache;
-use microcode_rom::{RAISE, entry};
+use microcode::{RAISE, entry};
 pub use reset::{can_start, can_start_bare};
-use stack_cache::StackCache;
 use std::marker::Model;
 
 /// The place of no word that a byte lies in.

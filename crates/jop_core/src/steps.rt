@@ -1,14 +1,14 @@
 //! The microinstructions of the ROM, decoded once and for all: a cycle reads its own from a table, as
 //! simulators do, and decodes no word.
 ghost use Rattle.std.specs.Prelude.{◌≡◌, ◌<◌, Some, length, slice_index, slice_get};
-ghost use Rattle.micro_isa.specs.Words.{micro_of};
-ghost use Rattle.microcode_rom.specs.declared.TheConstants.{WORDS};
+ghost use Rattle.microcode.specs.Isa.Words.{micro_of};
+ghost use Rattle.microcode.specs.declared.TheConstants.{WORDS};
 ghost use Rattle.jop_core.specs.Steps.{meaning, HasTarget};
 
-use microcode_rom::addresses::*;
-use microcode_rom::names::*;
+use microcode::addresses::*;
+use microcode::names::*;
 
-/// What a microinstruction does, apart from its flags, under the names of `micro_isa`: the operations that
+/// What a microinstruction does, apart from its flags, under the names of `microcode::isa`: the operations that
 /// have a code of their own, and those with a place, a number or an address. Those that a cycle tells apart
 /// from the others stand last, so that one comparison does.
 #[derive(Clone, Copy)]
@@ -180,7 +180,7 @@ macro_rules! steps {
 }
 
 /// All words of the ROM, decoded.
-static STEPS: [Step; 2048] = microcode_rom::microcode!(steps);
+static STEPS: [Step; 2048] = microcode::microcode!(steps);
 
 /// The microinstruction at an address.
 pub(crate) fn step_at(address: u16) -> &'static Step

@@ -9,3 +9,5 @@ pub mod RefusedLemmas
 pub mod BootLemmas
 pub mod MainLemmas
 pub mod OneRefusal
+pub mod MethodsLemmas
+pub mod MeaningLemmas

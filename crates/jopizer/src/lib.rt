@@ -8,6 +8,8 @@ mod image_files;
 pub mod laws;
 mod linked;
 mod linking;
+pub mod meaning;
+pub mod methods;
 mod refusal;
 
 pub use fault::ImageFault;

@@ -11,9 +11,9 @@ use Rattle.bytecode_model.specs.Rows.{Row}
 use Rattle.code_lines.specs.Lines.{IsLine, IsNamed, IsPushedBefore}
 use Rattle.code_lines.specs.Laws.{LinesAreOne, OneStandsBefore}
 use Rattle.code_scan.specs.Scans.{Scanned, is_named, line_before, IsBefore, IsScanOf}
-use Rattle.further_rules.specs.declared.table.KnownInt.{KnownInt}
-use Rattle.further_rules.specs.Known.{Known, Pushes}
-use Rattle.further_rules.specs.Found.{AreKnownInts, IsFollowing, known_at}
+use Rattle.loop_rules.specs.declared.further.table.KnownInt.{KnownInt}
+use Rattle.loop_rules.specs.Further.Known.{Known, Pushes}
+use Rattle.loop_rules.specs.Further.Found.{AreKnownInts, IsFollowing, known_at}
 use Rattle.loop_rules.specs.Tests.{Constants, IsLimit, PushesLimit}
 use Rattle.loop_rules.specs.Tests.IsLimit.{constant, field}
 use Rattle.loop_rules.specs.Sites.{SitesOf, int_at, IsPushAt, IsReadAt, AreSitesOf, AreNeverPut}

@@ -17,7 +17,7 @@ use Rattle.code_scan.specs.declared.rows.IntRow.TheVariants as told
 use Rattle.code_scan.specs.Rows.{Tells, test_of}
 use Rattle.code_scan.specs.Lines.{IsIntLine}
 use Rattle.code_scan.specs.Scans.{Scanned, is_named, line_before, IsBefore, IsScanOf}
-use Rattle.further_rules.specs.declared.table.KnownInt.{KnownInt}
+use Rattle.loop_rules.specs.declared.further.table.KnownInt.{KnownInt}
 use Rattle.loop_rules.specs.Tests.{IsTest}
 use Rattle.loop_rules.specs.Tests.IsTest.{with_zero, with_limit}
 use Rattle.loop_acts.specs.Rules.{Rules}

@@ -10,8 +10,8 @@ use Rattle.code_scan.specs.declared.rows.IntRow.{IntRow}
 use Rattle.code_scan.specs.declared.rows.IntRow.TheVariants as told
 use Rattle.code_scan.specs.Lines.{IsIntLine}
 use Rattle.code_scan.specs.Scans.{Scanned, is_named, line_before}
-use Rattle.further_rules.specs.declared.table.KnownInt.{KnownInt}
-use Rattle.further_rules.specs.Found.{AreKnownInts, known_at}
+use Rattle.loop_rules.specs.declared.further.table.KnownInt.{KnownInt}
+use Rattle.loop_rules.specs.Further.Found.{AreKnownInts, known_at}
 use Rattle.loop_rules.specs.Sites.{SitesOf, AreNeverPut, AreSitesOf, int_at}
 use Rattle.loop_acts.specs.Rules.{Rules, Given}
 use Rattle.loop_acts.specs.Rules.Given.{plainly, further_on}

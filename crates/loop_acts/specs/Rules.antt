@@ -4,9 +4,9 @@ use Rattle.bytecode_model.specs.Program.{Program}
 use Rattle.loop_nest.specs.Digraph.{Digraph}
 use Rattle.method_flow.specs.Nodes.{At, number_of}
 use Rattle.code_lines.specs.Lines.{IsPushedBefore}
-use Rattle.further_rules.specs.Known.{Known, Pushes}
-use Rattle.further_rules.specs.Beginning.{BeginsAt}
-use Rattle.further_rules.specs.Found.{IsFollowing}
+use Rattle.loop_rules.specs.Further.Known.{Known, Pushes}
+use Rattle.loop_rules.specs.Further.Beginning.{BeginsAt}
+use Rattle.loop_rules.specs.Further.Found.{IsFollowing}
 use Rattle.loop_rules.specs.Tests.{Constants, Pushing, PushesLimit}
 use Rattle.loop_rules.specs.Iterations.{IsSetBefore}
 

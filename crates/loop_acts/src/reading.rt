@@ -11,8 +11,8 @@ ghost use Rattle.loop_acts.specs.Reading.{stored_at, test_behind, test_by, test_
 use crate::effects::{Act, Test};
 use base::NoMemory;
 use code_scan::{CodeScan, Comparison, IntLine, IntRow, int_line};
-use further_rules::{KnownInt, known_at};
 use loop_rules::MethodSites;
+use loop_rules::further::{KnownInt, known_at};
 use method_flow::FlowMethod;
 use opcodes::starts;
 use std::alloc::Global;

@@ -10,8 +10,8 @@ use Rattle.loop_nest.specs.Walks.{IsHeader}
 use Rattle.loop_nest.specs.Nest.{NaturalLoop, headers_of, header_at, IsNest}
 use Rattle.compact_walks.specs.Moving.{IsMoved}
 use Rattle.compact_walks.proofs.Walks.{header_back}
-use Rattle.further_rules.specs.Beginning.{BeginsAt}
-use Rattle.further_rules.specs.Known.{Known}
+use Rattle.loop_rules.specs.Further.Beginning.{BeginsAt}
+use Rattle.loop_rules.specs.Further.Known.{Known}
 use Rattle.loop_acts.specs.declared.effects.Act.{Act}
 use Rattle.loop_acts.specs.declared.effects.Act.TheVariants as does
 use Rattle.loop_acts.specs.Acts.{written}

@@ -3,8 +3,8 @@ use Rattle.std.proofs.Common.{◌≡◌, ◌↔◌, ℕ, ◌*◌, List, sym, sub
 use Rattle.bytecode_model.specs.Program.{Program}
 use Rattle.method_flow.specs.Graphs.{IsGraphOf}
 use Rattle.code_lines.specs.Laws.{LinesAreOne, OneIsPushedBefore}
-use Rattle.further_rules.specs.Known.{Known}
-use Rattle.further_rules.specs.Laws.{StaysAtStarts}
+use Rattle.loop_rules.specs.Further.Known.{Known}
+use Rattle.loop_rules.specs.Further.Laws.{StaysAtStarts}
 use Rattle.loop_acts.specs.Rules.{Given, Rules, further, plain, rules_by}
 use Rattle.loop_acts.specs.Rules.Given.{plainly, further_on}
 use Rattle.loop_acts.specs.declared.reading.MethodInts.{MethodInts}

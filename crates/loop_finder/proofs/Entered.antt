@@ -10,10 +10,10 @@ use Rattle.method_flow.specs.Nodes.{Node, IsEdge, IsReached, number_of}
 use Rattle.method_flow.specs.Graphs.{IsGraphOf}
 use Rattle.compact_walks.proofs.Walks.{step_on}
 use Rattle.code_lines.specs.Lines.{IsNamed}
-use Rattle.further_rules.specs.Known.{Known, Pushes, Stores}
-use Rattle.further_rules.specs.Known.Stores.{stores}
-use Rattle.further_rules.specs.Writing.{MayBeLast}
-use Rattle.further_rules.specs.Laws.{LastWritesExist, LastWritesWrite, PushedAreOne}
+use Rattle.loop_rules.specs.Further.Known.{Known, Pushes, Stores}
+use Rattle.loop_rules.specs.Further.Known.Stores.{stores}
+use Rattle.loop_rules.specs.Further.Writing.{MayBeLast}
+use Rattle.loop_rules.specs.Further.Laws.{LastWritesExist, LastWritesWrite, PushedAreOne}
 use Rattle.loop_finder.specs.Further.{BeginningsAreOne}
 use Rattle.loop_finder.proofs.Ranking.{from_reached}
 

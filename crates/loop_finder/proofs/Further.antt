@@ -10,8 +10,8 @@ use Rattle.method_flow.specs.Graphs.{IsGraphOf}
 use Rattle.loop_rules.specs.Tests.{Pushing, IsTest}
 use Rattle.loop_rules.specs.Tests.IsTest.{with_zero, with_limit}
 use Rattle.loop_rules.specs.Counted.{CountsBy}
-use Rattle.further_rules.specs.Known.{Known, Pushes}
-use Rattle.further_rules.specs.Found.{IsFollowing}
+use Rattle.loop_rules.specs.Further.Known.{Known, Pushes}
+use Rattle.loop_rules.specs.Further.Found.{IsFollowing}
 use Rattle.loop_acts.specs.Rules.{further}
 use Rattle.loop_finder.specs.Further.{FurtherRulesAreRight}
 use Rattle.loop_finder.proofs.Meeting.{at_number}

@@ -8,8 +8,8 @@ use Rattle.lists.specs.Members.{at_head, in_tail, cons_cases, nil_contains}
 use Rattle.lists.specs.Tests.{and_left, and_right}
 use Rattle.lists.proofs.Lemmas.{none≢some, some_same}
 use Rattle.bytecode_model.specs.Program.{Program}
-use Rattle.further_rules.specs.Beginning.{BeginsAt}
-use Rattle.further_rules.specs.Known.{Known}
+use Rattle.loop_rules.specs.Further.Beginning.{BeginsAt}
+use Rattle.loop_rules.specs.Further.Known.{Known}
 use Rattle.loop_acts.specs.Rules.{further}
 use Rattle.loop_finder.specs.declared.body.Beginning.{Beginning}
 use Rattle.loop_finder.specs.declared.body.Beginnings.TheVariants.{Listed}

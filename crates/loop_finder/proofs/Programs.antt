@@ -14,7 +14,7 @@ use Rattle.loop_nest.proofs.Elements.{from_map}
 use Rattle.loop_rules.specs.declared.found.FoundLoop.{FoundLoop}
 use Rattle.loop_rules.specs.Tests.{Constants}
 use Rattle.loop_rules.specs.Finding.{places_of, IsCountedLoop, AreCountedLoops}
-use Rattle.further_rules.specs.Known.{Known}
+use Rattle.loop_rules.specs.Further.Known.{Known}
 use Rattle.loop_acts.specs.Rules.{Rules, further, plain}
 use Rattle.loop_finder.specs.Counted.{AreCountedWith, IsCountedWith}
 use Rattle.loop_finder.specs.Further.{AreCountedFurther, FurtherRulesAreRight, IsCountedFurther}

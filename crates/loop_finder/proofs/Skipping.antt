@@ -3,7 +3,7 @@ use Rattle.std.proofs.Common.{◌≡◌, ℕ, ◌+◌, ◌-◌, Bool, true, fals
 use Rattle.std.proofs.lemmas.Bool.{both_ways, cases_lt}
 use Rattle.std.proofs.lemmas.List.{length-append, length-replicate, get_or_past, get_or_append_left, get_or-append_right}
 use Rattle.loop_nest.specs.Digraph.{Digraph}
-use Rattle.further_rules.specs.Search.{AreWithin, IsPassed, flag_at}
+use Rattle.loop_rules.specs.Further.Search.{AreWithin, IsPassed, flag_at}
 use Rattle.loop_marks.proofs.Flagging.{none_flagged}
 use Rattle.loop_acts.specs.declared.effects.Act.{Act}
 use Rattle.loop_acts.specs.Writing.{IsIdle, IsWriterAt}

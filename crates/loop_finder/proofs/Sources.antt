@@ -8,9 +8,9 @@ use Rattle.loop_nest.specs.Laws.{HeaderDominatesMembers, WalksComeByEdges}
 use Rattle.loop_nest.proofs.Searching.{sources_has}
 use Rattle.method_flow.specs.Nodes.{Node, IsEdge, IsReached, number_of}
 use Rattle.method_flow.specs.Graphs.{IsGraphOf}
-use Rattle.further_rules.specs.Beginning.{BeginsAt}
-use Rattle.further_rules.specs.Known.{Known}
-use Rattle.further_rules.specs.Laws.{LastWritesAreReached}
+use Rattle.loop_rules.specs.Further.Beginning.{BeginsAt}
+use Rattle.loop_rules.specs.Further.Known.{Known}
+use Rattle.loop_rules.specs.Further.Laws.{LastWritesAreReached}
 use Rattle.loop_finder.specs.declared.beginning.SoFar.{SoFar}
 use Rattle.loop_finder.specs.declared.beginning.SoFar.TheVariants.{NotEntered, One, Unknown}
 use Rattle.loop_acts.specs.Writing.{IsOnly}

@@ -8,7 +8,7 @@ use Rattle.method_flow.specs.Kinds.{RowsAreOfTheirKinds}
 use Rattle.method_flow.specs.Nodes.{IsEdge}
 use Rattle.flow_graph.proofs.Joining.{reached_alike}
 use Rattle.flow_graph.proofs.Starting.{IsPlaced, body, first_placed, next_placed}
-use Rattle.further_rules.specs.Laws.{StaysAtStarts}
+use Rattle.loop_rules.specs.Further.Laws.{StaysAtStarts}
 
 pub stays : ((code : List ℕ) → AreStarts code) → RowsAreOfTheirKinds → (P : Program) (m : ℕ) (k : Coded) → IsCoded k → IsCodedOf P m k → StaysAtStarts P m
 stays starts kinds P m k c of p come =

@@ -6,8 +6,8 @@ use Rattle.bytecode_model.specs.Program.{Program}
 use Rattle.method_flow.specs.Nodes.{Node, At, RaiseAt, number_of}
 use Rattle.code_lines.specs.Lines.{Writes}
 use Rattle.code_lines.specs.Laws.{LinesAreOne}
-use Rattle.further_rules.specs.Writing.{NodeWrites}
-use Rattle.further_rules.specs.Last.{StopsAtWritesAlone}
+use Rattle.loop_rules.specs.Further.Writing.{NodeWrites}
+use Rattle.loop_rules.specs.Further.Last.{StopsAtWritesAlone}
 use Rattle.loop_acts.specs.declared.effects.Act.{Act}
 use Rattle.loop_acts.specs.Acts.{AreActs}
 use Rattle.loop_acts.specs.Writing.{IsWriterAt}

@@ -10,12 +10,12 @@ use Rattle.bytecode_model.specs.Types.{IntType, Numbers}
 use Rattle.method_flow.specs.Nodes.{Node, IsEdge, IsReached}
 use Rattle.code_lines.specs.Lines.{IsLine, IsNamed}
 use Rattle.code_lines.specs.Laws.{LinesAreOne}
-use Rattle.further_rules.specs.Known.{Known, Pushes, Stores}
-use Rattle.further_rules.specs.Known.Stores.{stores}
-use Rattle.further_rules.specs.Writing.{MayBeLast}
-use Rattle.further_rules.specs.Last.{AreLastWrites}
-use Rattle.further_rules.specs.declared.writes.LastWrites.{LastWrites}
-use Rattle.further_rules.specs.Laws.{LastWritesExist, LastWritesWrite, PushedAreOne}
+use Rattle.loop_rules.specs.Further.Known.{Known, Pushes, Stores}
+use Rattle.loop_rules.specs.Further.Known.Stores.{stores}
+use Rattle.loop_rules.specs.Further.Writing.{MayBeLast}
+use Rattle.loop_rules.specs.Further.Last.{AreLastWrites}
+use Rattle.loop_rules.specs.declared.further.writes.LastWrites.{LastWrites}
+use Rattle.loop_rules.specs.Further.Laws.{LastWritesExist, LastWritesWrite, PushedAreOne}
 use Rattle.loop_acts.specs.Rules.{Rules, further}
 use Rattle.loop_acts.specs.declared.effects.Act.{Act}
 use Rattle.loop_acts.specs.Acts.{act_at, written}

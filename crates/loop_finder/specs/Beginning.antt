@@ -7,10 +7,10 @@ use Rattle.loop_nest.specs.Walks.{IsEntering, IsHeader, IsMember}
 use Rattle.method_flow.specs.Nodes.{Node, IsEdge, IsReached, number_of}
 use Rattle.method_flow.specs.Graphs.{IsGraphOf}
 use Rattle.loop_rules.specs.Iterations.{IsOnEachIteration}
-use Rattle.further_rules.specs.Known.{Known, Stores}
-use Rattle.further_rules.specs.Writing.{MayBeLast}
-use Rattle.further_rules.specs.Beginning.{BeginsAt}
-use Rattle.further_rules.specs.Laws.{StaysAtStarts}
+use Rattle.loop_rules.specs.Further.Known.{Known, Stores}
+use Rattle.loop_rules.specs.Further.Writing.{MayBeLast}
+use Rattle.loop_rules.specs.Further.Beginning.{BeginsAt}
+use Rattle.loop_rules.specs.Further.Laws.{StaysAtStarts}
 use Rattle.loop_acts.specs.Acts.{AreActs}
 use Rattle.loop_acts.specs.Rules.{further}
 use Rattle.loop_finder.specs.declared.body.Beginning.{Beginning}

@@ -7,9 +7,9 @@ use Rattle.loop_nest.specs.Walks.{IsHeader}
 use Rattle.method_flow.specs.Graphs.{IsGraphOf}
 use Rattle.loop_rules.specs.declared.found.FoundLoop.{FoundLoop}
 use Rattle.loop_rules.specs.Finding.{IsReducibleWhenCompact, places_of}
-use Rattle.further_rules.specs.Known.{Known}
-use Rattle.further_rules.specs.Beginning.{BeginsAt}
-use Rattle.further_rules.specs.Laws.{StaysAtStarts}
+use Rattle.loop_rules.specs.Further.Known.{Known}
+use Rattle.loop_rules.specs.Further.Beginning.{BeginsAt}
+use Rattle.loop_rules.specs.Further.Laws.{StaysAtStarts}
 use Rattle.counted_laws.specs.Counting.{CountsFurther}
 use Rattle.loop_acts.specs.Rules.{further}
 use Rattle.loop_finder.specs.Counted.{CountsWith}

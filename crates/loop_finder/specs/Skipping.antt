@@ -1,7 +1,7 @@
 -- To which nodes a search for last writes may skip back, by what instructions do.
 use Rattle.std.specs.Prelude.{◌≡◌, ℕ, Bool, true, List, length}
 use Rattle.loop_nest.specs.Digraph.{Digraph}
-use Rattle.further_rules.specs.Search.{AreBacks, flag_at}
+use Rattle.loop_rules.specs.Further.Search.{AreBacks, flag_at}
 use Rattle.loop_acts.specs.declared.effects.Act.{Act}
 use Rattle.loop_acts.specs.Writing.{IsIdle}
 

@@ -5,9 +5,9 @@ ghost use Rattle.bytecode_model.specs.Program.{Program};
 ghost use Rattle.loop_nest.specs.Digraph.{Edge, sources_of};
 ghost use Rattle.method_flow.specs.Graphs.{IsGraphOf};
 ghost use Rattle.method_flow.specs.Nodes.{IsEdge, IsReached, Node, number_of};
-ghost use Rattle.further_rules.specs.Beginning.{BeginsAt};
-ghost use Rattle.further_rules.specs.Known.{Known};
-ghost use Rattle.further_rules.specs.Last.{AreLastWrites};
+ghost use Rattle.loop_rules.specs.Further.Beginning.{BeginsAt};
+ghost use Rattle.loop_rules.specs.Further.Known.{Known};
+ghost use Rattle.loop_rules.specs.Further.Last.{AreLastWrites};
 ghost use Rattle.loop_acts.specs.Acts.{AreActs, act_at};
 ghost use Rattle.loop_acts.specs.Rules.{Given, rules_by};
 ghost use Rattle.loop_marks.specs.Marking.{AreMarksOf, AreSized};
@@ -18,9 +18,9 @@ ghost use Rattle.loop_finder.specs.Skipping.{AreBacksPast};
 use crate::body::{Beginning, MethodBody};
 use crate::counting::only_step;
 use base::NoMemory;
-use further_rules::{LastWrites, Stops};
 use loop_acts::{Act, act_at, stored_by_all, writer_at, writers};
 use loop_marks::{LoopMarks, Routes};
+use loop_rules::further::{LastWrites, Stops};
 use std::alloc::Global;
 
 /// Stops a search at the instructions that write a local variable.
@@ -69,9 +69,9 @@ fn stored_last(
         → IsReached (IsEdge P m) u → IsOnly (AllStore P known m local u) value) }
 {
     code_lines::laws::lines_follow_one_another();
-    further_rules::laws::last_writes_are_reached();
-    further_rules::laws::last_writes_exist();
-    further_rules::laws::pushed_are_one();
+    loop_rules::further::laws::last_writes_are_reached();
+    loop_rules::further::laws::last_writes_exist();
+    loop_rules::further::laws::pushed_are_one();
     let last = last_at(alloc, &body.acts, &body.routes, &body.backs, local, node)?;
     if last.unwritten {
         return Ok(None);
@@ -161,7 +161,7 @@ fn known_beginning(
 {
     loop_nest::laws::headers_dominate_members();
     loop_nest::laws::walks_lead_on();
-    further_rules::laws::last_writes_are_reached();
+    loop_rules::further::laws::last_writes_are_reached();
     // The method begins with its first instruction, to which control comes by no edge.
     if marks.header() == 0 {
         return Ok(None);

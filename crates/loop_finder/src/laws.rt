@@ -22,7 +22,7 @@ pub fn beginnings_are_one()
 {
     loop_nest::laws::headers_dominate_members();
     loop_nest::laws::walks_lead_on();
-    further_rules::laws::last_writes_are_reached();
-    further_rules::laws::last_writes_exist();
-    further_rules::laws::pushed_are_one();
+    loop_rules::further::laws::last_writes_are_reached();
+    loop_rules::further::laws::last_writes_exist();
+    loop_rules::further::laws::pushed_are_one();
 }

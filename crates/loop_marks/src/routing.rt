@@ -5,17 +5,17 @@ ghost use Rattle.loop_nest.specs.Digraph.{IsDigraph, sources_of};
 ghost use Rattle.bytecode_model.specs.Program.{Program};
 ghost use Rattle.method_flow.specs.Graphs.{IsGraphOf};
 ghost use Rattle.method_flow.specs.Nodes.{IsEdge, IsReached, Node, number_of};
-ghost use Rattle.further_rules.specs.Last.{AreLastWrites, StopsAtWritesAlone};
-ghost use Rattle.further_rules.specs.Search.{AreBacks, AreWithin, IsPassed};
+ghost use Rattle.loop_rules.specs.Further.Last.{AreLastWrites, StopsAtWritesAlone};
+ghost use Rattle.loop_rules.specs.Further.Search.{AreBacks, AreWithin, IsPassed};
 ghost use Rattle.loop_marks.specs.Reach.{AreReached};
 
 use crate::flags::NodeFlags;
 use crate::reach::reached;
 use base::NoMemory;
 use flow_graph::spans;
-use further_rules::{LastWrites, Stops, backs, last_writes};
 use loop_nest::Graph;
 use loop_nest::digraph::Sources;
+use loop_rules::further::{LastWrites, Stops, backs, last_writes};
 use std::alloc::Global;
 use std::marker::Model;
 

@@ -6,3 +6,4 @@ pub mod Sites
 pub mod Finding
 pub mod Examples
 pub mod Laws
+pub mod Further

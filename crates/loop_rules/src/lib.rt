@@ -3,6 +3,7 @@
 #![tactic(auto)]
 
 mod found;
+pub mod further;
 pub mod laws;
 mod sites;
 

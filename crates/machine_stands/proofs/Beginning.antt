@@ -8,12 +8,12 @@ use Rattle.std.proofs.Math.Nat.{mod-eq_of_lt, mod-lt}
 use Rattle.std.proofs.lemmas.List.{get_or_append_left, take-replicate, length-replicate}
 use Rattle.std.proofs.Math.Seq.{drop-append_seam, take-append_seam}
 use Rattle.lists.proofs.Lemmas.{some_same}
-use Rattle.stack_cache.specs.Size.{IsSize}
-use Rattle.microcode_rom.specs.declared.TheConstants.{CONSTANTS as NUMBERS}
+use Rattle.machine_memory.specs.Stack.Size.{IsSize}
+use Rattle.microcode.specs.declared.TheConstants.{CONSTANTS as NUMBERS}
 use Rattle.jop_core.specs.declared.places.TheConstants.{CONSTANTS, STACK}
 use Rattle.base.specs.Packed.{words_for, words_of_bytes, PackedHasBytes, PackedHasWords}
 use Rattle.method_cache.specs.Contents.{Entry, Cache, IsCache, AreApart, HaveWords, total_blocks, blocks_for, empty, loaded, can_load, find_words}
-use Rattle.memory_timing.specs.declared.Config.{Config}
+use Rattle.machine_memory.specs.declared.timing.Config.{Config}
 use Rattle.image_file.specs.Bare.{BareContent, IsBareContent, frame_words}
 use Rattle.jop_core.specs.Reset.{bare_reset, CanStartBare, reset_words, places}
 use Rattle.bytecode_model.specs.declared.Value.{Value}

@@ -18,3 +18,4 @@ pub mod Going
 pub mod Operands
 pub mod Fixed
 pub mod Unwinding
+pub mod ShownFramesLemmas

@@ -1,6 +1,6 @@
 -- The memory: the words of the image, and zeros.
 use Rattle.std.proofs.Common.{◌≡◌, ℕ, ◌-◌, List, ◌++◌, length, replicate, sym, ◌∙◌, ap, arith, length-append}
-use Rattle.memory_timing.specs.Port.{padded}
+use Rattle.machine_memory.specs.Timing.Port.{padded}
 use Rattle.image_facts.specs.Within.{LieAt, DifferAt}
 use Rattle.image_facts.specs.Laws.{ListsGoOn}
 

@@ -3,7 +3,7 @@ use Rattle.std.proofs.Common.{◌≡◌, ℕ, ◌+◌, ◌-◌, ◌≤◌, List,
 use Rattle.std.specs.declared.option.Option.{Option}
 use Rattle.std.proofs.lemmas.List.{append-nil, reverse-append, reverse-reverse}
 use Rattle.micro_flow.specs.declared.CostParams.{CostParams}
-use Rattle.microcode_rom.specs.declared.TheConstants.{CONSTANTS as NUMBERS}
+use Rattle.microcode.specs.declared.TheConstants.{CONSTANTS as NUMBERS}
 use Rattle.jop_core.specs.declared.places.TheConstants.{CONSTANTS, STACK}
 use Rattle.jop_core.specs.State as machine
 use Rattle.micro_sketch.specs.Stands.{constants}

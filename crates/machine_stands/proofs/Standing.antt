@@ -6,9 +6,9 @@ use Rattle.std.proofs.Math.Nat.{mod-eq_of_lt, mod-lt}
 use Rattle.std.proofs.Math.Seq.{take-append-add, drop-append_seam, take-append_seam}
 use Rattle.std.proofs.lemmas.List.{reverse-append, reverse-reverse, length-reverse}
 use Rattle.lists.proofs.Lemmas.{holds_at}
-use Rattle.stack_cache.specs.Size.{IsSize}
-use Rattle.microcode_rom.specs.declared.TheConstants.{CONSTANTS as NUMBERS}
-use Rattle.memory_timing.specs.declared.TheConstants.{MAX_MEMORY}
+use Rattle.machine_memory.specs.Stack.Size.{IsSize}
+use Rattle.microcode.specs.declared.TheConstants.{CONSTANTS as NUMBERS}
+use Rattle.machine_memory.specs.declared.timing.TheConstants.{MAX_MEMORY}
 use Rattle.base.specs.Packed.{PackedHasBytes}
 use Rattle.method_cache.specs.Contents.{Cache, IsCache, is_cached, word_of}
 use Rattle.micro_flow.specs.declared.CostParams.{CostParams}

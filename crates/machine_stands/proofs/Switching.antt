@@ -7,7 +7,7 @@ use Rattle.std.proofs.Math.Nat.{mod-eq_of_lt}
 use Rattle.lists.proofs.Lemmas.{holds_at}
 use Rattle.base.specs.Packed.{byte_of, words_of_bytes, PackedHasWords}
 use Rattle.method_cache.specs.Contents.{Cache, is_cached, loaded, word_of}
-use Rattle.microcode_rom.specs.declared.TheConstants.{ENTRIES}
+use Rattle.microcode.specs.declared.TheConstants.{ENTRIES}
 use Rattle.micro_flow.specs.declared.CostParams.{CostParams}
 use Rattle.micro_flow.specs.Walk.{begin, walk}
 use Rattle.opcodes.specs.declared.instruction.Instr.{Instr}

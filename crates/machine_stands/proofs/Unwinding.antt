@@ -9,7 +9,7 @@ use Rattle.lists.proofs.Lemmas.{holds_at}
 use mathlib.Core.List.{reverse_aux}
 use Rattle.base.specs.Packed.{byte_of, words_of_bytes, PackedHasWords}
 use Rattle.method_cache.specs.Contents.{Cache, is_cached, word_of}
-use Rattle.microcode_rom.specs.declared.TheConstants.{CONSTANTS as NUMBERS, RAISE}
+use Rattle.microcode.specs.declared.TheConstants.{CONSTANTS as NUMBERS, RAISE}
 use Rattle.micro_flow.specs.declared.CostParams.{CostParams}
 use Rattle.micro_flow.specs.Walk.{IsRaiseCost, begin, walk}
 use Rattle.opcodes.specs.declared.instruction.Instr.{Instr}

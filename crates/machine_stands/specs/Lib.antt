@@ -16,3 +16,4 @@ pub mod Operands
 pub mod Fixed
 pub mod Counted
 pub mod Unwinding
+pub mod ShownFrames

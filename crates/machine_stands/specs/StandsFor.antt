@@ -1,11 +1,11 @@
 -- When a machine, at a boundary, stands for a state of a program.
 use Rattle.std.specs.Prelude.{◌≡◌, ℕ, ◌+◌, ◌-◌, ◌^◌, ◌<◌, ◌≤◌, true, List, [], ◌∷◌, ◌++◌, length, take, drop, slice_get, slice_index, All, IsTrue, IfSome}
 use Rattle.std.specs.Prelude.{IsSomeAnd, Some}
-use Rattle.stack_cache.specs.Size.{IsSize}
-use Rattle.microcode_rom.specs.declared.TheConstants.{CONSTANTS as NUMBERS, RAISE}
+use Rattle.machine_memory.specs.Stack.Size.{IsSize}
+use Rattle.microcode.specs.declared.TheConstants.{CONSTANTS as NUMBERS, RAISE}
 use Rattle.method_cache.specs.Contents.{Entry, Cache, IsCache, is_cached, can_load}
-use Rattle.memory_timing.specs.declared.TheConstants.{MAX_MEMORY}
-use Rattle.memory_timing.specs.Port.{padded}
+use Rattle.machine_memory.specs.declared.timing.TheConstants.{MAX_MEMORY}
+use Rattle.machine_memory.specs.Timing.Port.{padded}
 use Rattle.base.specs.Packed.{words_for, words_of_bytes}
 use Rattle.opcodes.specs.Bytes.{u1}
 use Rattle.jop_core.specs.declared.halt.Halt.TheVariants as halts

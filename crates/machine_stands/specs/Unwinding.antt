@@ -3,7 +3,7 @@ use Rattle.std.specs.Prelude.{◌≡◌, ℕ, ◌+◌, ◌≤◌, List, [], ◌�
 use Rattle.std.specs.declared.option.Option.{Option}
 use Rattle.base.specs.Packed.{words_of_bytes}
 use Rattle.method_cache.specs.Contents.{is_cached}
-use Rattle.microcode_rom.specs.declared.TheConstants.{RAISE}
+use Rattle.microcode.specs.declared.TheConstants.{RAISE}
 use Rattle.micro_flow.specs.declared.CostParams.{CostParams}
 use Rattle.opcodes.specs.declared.instruction.Instr.{Instr}
 use Rattle.jop_core.specs.declared.halt.Halt.TheVariants as halts

@@ -3,6 +3,8 @@
 //! function.
 #![tactic(auto)]
 
+pub mod shown_frames;
+
 ghost use Rattle.machine_stands.specs.Counted.{FiveAreSaved, FramesHaveRoom};
 ghost use Rattle.machine_stands.specs.Again.{MachinesStandAgain, MadeRowsRun, RowsCome};
 ghost use Rattle.machine_stands.specs.Bare.{BareImagesBegin, BareImagesSay};

@@ -5,7 +5,7 @@ use Rattle.std.proofs.lemmas.Bool.{cases_eq, cases_lt}
 use Rattle.std.proofs.lemmas.List.{get_or-take, length-take-le, take_all, take_more, get_or-set_same, get_or-set_other}
 use Rattle.std.proofs.lemmas.List.Elements.{Contains-push_cases}
 use Rattle.lists.specs.Members.{place_of, contains_at, rising_all}
-use Rattle.cache_regions.specs.Region.{AreDistinct}
+use Rattle.method_cache.specs.Regions.Region.{AreDistinct}
 
 -- what is less than the number at a place of a list that rises stands before it
 pub stands_before : (ms : List ℕ) (i : ℕ) → IsStrictlyIncreasing ms → i < length ms → (x : ℕ) → Contains ms x → x < get_or ms i 0 → Contains (take i ms) x

@@ -2,7 +2,7 @@
 ghost use Rattle.std.specs.Prelude.{◌≡◌, ◌<◌, ◌^◌, ℕ, [], length, All, Contains, IfOk, IfErr, IsOk, OnOk, MatchBool, true};
 ghost use Rattle.std.specs.List.Sorted.{IsStrictlyIncreasing, IsPermutation};
 ghost use Rattle.bytecode_model.specs.Program.{Program};
-ghost use Rattle.cache_regions.specs.Region.{AreDistinct};
+ghost use Rattle.method_cache.specs.Regions.Region.{AreDistinct};
 ghost use Rattle.method_flow.specs.Flow.{IsFlowOf};
 ghost use Rattle.bound_rules.specs.Bounding.{HasNoRecursion, IsLeftWith};
 ghost use Rattle.call_regions.specs.Calling.{IsTargetsFirst};

@@ -21,8 +21,8 @@ mod stacks;
 mod task;
 mod words;
 
+use bound_texts::loops::Bounds;
 use causes::need_of;
-use loop_bounds::Bounds;
 use memory_rules::{Need, NeedFault, Sites};
 use method_flow::FlowProgram;
 use std::alloc::Global;

@@ -1,6 +1,6 @@
 //! What the needs are told of.
+use bound_texts::loops::Bounds;
 use call_regions::laws::runs_are_calls;
-use loop_bounds::Bounds;
 use memory_rules::{Makes, Sites};
 use method_flow::{Call, FlowMethod, FlowProgram};
 use node_costs::bound_at;

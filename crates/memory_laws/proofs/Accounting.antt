@@ -25,7 +25,7 @@ use Rattle.method_flow.specs.Calls.{IsStartOf}
 use Rattle.method_flow.specs.Keeping.{BoundOf}
 use Rattle.method_flow.specs.Kinds.{RowsAreOfTheirKinds}
 use Rattle.method_flow.specs.Shapes.{node_of, IsGoingOn, Moves, Enters, Returns, Drops}
-use Rattle.method_graphs.specs.Laws.{MethodGraphsExist}
+use Rattle.method_runs.specs.TypedGraphs.Laws.{MethodGraphsExist}
 use Rattle.method_runs.specs.Runs.{Walks, walks_from, boot_walks, with_nodes}
 use Rattle.method_runs.specs.Steps.{WalksStep, Stepped, Stayed}
 use Rattle.method_runs.specs.Steps.WalksStep.{moves, enters, returns, drops, ends}

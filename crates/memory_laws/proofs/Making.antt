@@ -14,7 +14,7 @@ use Rattle.method_flow.specs.Keeping.{BoundOf}
 use Rattle.method_flow.specs.Regions.{IsWithin}
 use Rattle.method_flow.specs.Regions.IsWithin.{itself, calls}
 use Rattle.method_flow.specs.Shapes.{node_of}
-use Rattle.method_graphs.specs.Laws.{MethodGraphsExist}
+use Rattle.method_runs.specs.TypedGraphs.Laws.{MethodGraphsExist}
 use Rattle.method_runs.specs.Runs.{Walks}
 use Rattle.method_runs.specs.Standing.{MethodWalk}
 use Rattle.method_runs.specs.Standing.MethodWalk.{starts as walk_starts, goes as walk_goes}

@@ -21,7 +21,7 @@ use Rattle.bytecode_typing.specs.Fits.{Fits}
 use Rattle.bytecode_typing.specs.Laws.{FittingStatesAreWellFormed, TheBootStateFits, TypedProgramsKeep}
 use Rattle.method_flow.specs.Keeping.{BoundOf}
 use Rattle.method_flow.specs.Kinds.{RowsAreOfTheirKinds}
-use Rattle.method_graphs.specs.Laws.{MethodGraphsExist}
+use Rattle.method_runs.specs.TypedGraphs.Laws.{MethodGraphsExist}
 use Rattle.method_runs.specs.Runs.{Walks, walks_after, walks_from, boot_walks}
 use Rattle.method_runs.specs.Laws.{RunsHaveWalks, BootWalksStand, WalksAreOfGraphs}
 use Rattle.code_lines.specs.Laws.{LinesAreOne, LinesAreApart, OneStandsBefore}

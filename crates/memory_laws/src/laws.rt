@@ -25,7 +25,7 @@ pub fn heap_need_suffices()
     method_runs::laws::first_walks_stand();
     method_runs::laws::walks_are_of_graphs();
     method_flow::laws::rows_are_of_their_kinds();
-    method_graphs::laws::method_graphs_exist();
+    method_runs::typed_graphs::laws::method_graphs_exist();
     code_lines::laws::lines_follow_one_another();
     code_lines::laws::one_stands_before();
 }

@@ -3,7 +3,7 @@ use Rattle.std.proofs.Common.{◌≡◌, ℕ, ◌<◌, List, [], length, get_or,
 use Rattle.std.specs.Prelude.{slice_get, All}
 use Rattle.std.proofs.lemmas.Option.{slice_get-get_or}
 use Rattle.std.proofs.lemmas.List.Elements.{All-contains}
-use Rattle.loop_bounds.specs.Bounds.{LoopBound}
+use Rattle.bound_texts.specs.Loops.Bounds.{LoopBound}
 use Rattle.bytecode_model.specs.Program.{Program}
 use Rattle.method_flow.specs.Flow.{Flow, IsFlowOf}
 use Rattle.method_flow.specs.Keeping.{BoundOf}
@@ -16,7 +16,7 @@ use Rattle.answer_lines.specs.declared.bound.BoundCause.TheVariants as causes
 use Rattle.bound_rules.specs.Bounding.{HasNoRecursion, IsLeftWith, AreReducible, LacksLine, HaveLines}
 use Rattle.bound_causes.specs.Headers.{HeadsUnbounded}
 use Rattle.bound_causes.specs.Causes.{IsUnboundedIn}
-use Rattle.wcet.proofs.Ordering.{are_ready, within_all}
+use Rattle.bound_finder.proofs.Ordering.{are_ready, within_all}
 use Rattle.method_bounds.specs.declared.loops.Loops.{Loops}
 use Rattle.method_bounds.specs.declared.loops.Loops.TheVariants.{Bounded, Lacking, Irreducible}
 use Rattle.method_bounds.specs.Answers.{IsCauseFor}

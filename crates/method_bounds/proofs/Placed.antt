@@ -8,9 +8,9 @@ use Rattle.bytecode_model.specs.Program.{Program}
 use Rattle.method_flow.specs.Keeping.{BoundOf}
 use Rattle.method_flow.specs.Recursion.{MayCall}
 use Rattle.bound_rules.specs.Bounding.{HasNoRecursion, AreReducible, HaveLines}
-use Rattle.wcet.specs.Ready.{AreBehindCalls}
-use Rattle.wcet.proofs.Growing.{front_behind, last_behind}
-use Rattle.wcet.proofs.Pushed.{push_cases}
+use Rattle.bound_finder.specs.Ready.{AreBehindCalls}
+use Rattle.bound_finder.proofs.Growing.{front_behind, last_behind}
+use Rattle.bound_finder.proofs.Pushed.{push_cases}
 use Rattle.method_bounds.specs.Placing.{IsPlaced, ArePlaced, AreBoundable}
 use Rattle.method_bounds.specs.Placing.ArePlaced.{none, more}
 

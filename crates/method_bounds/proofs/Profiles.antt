@@ -4,7 +4,7 @@ use Rattle.std.proofs.Math.Seq.{take-append-add}
 use Rattle.std.proofs.lemmas.List.{take-append-le}
 use Rattle.std.specs.Prelude.{Option, Some, None, slice_get, codes, decimal}
 use Rattle.method_flow.specs.Flow.{Coded, Flow}
-use Rattle.activation_watch.specs.declared.profile.Profile.{Profile}
+use Rattle.run_follower.specs.declared.watch.profile.Profile.{Profile}
 use Rattle.method_bounds.specs.declared.answer.BoundAnswer.{BoundAnswer}
 use Rattle.method_bounds.specs.Lines.{name_in}
 use Rattle.method_bounds.specs.Profiles.{profile_line, profile_lines}

@@ -2,7 +2,7 @@
 use Rattle.std.proofs.Common.{◌≡◌, ℕ, ◌<◌, List, [], ◌∷◌, ◌++◌, length, Contains, Option, Some, None, sym, subst, inl, inr, arith}
 use Rattle.std.specs.Prelude.{All}
 use Rattle.std.proofs.lemmas.Option.{slice_get_within}
-use Rattle.loop_bounds.specs.Bounds.{LoopBound}
+use Rattle.bound_texts.specs.Loops.Bounds.{LoopBound}
 use Rattle.bytecode_model.specs.Program.{Program}
 use Rattle.method_flow.specs.Flow.{Flow, IsFlowOf}
 use Rattle.method_flow.specs.Keeping.{BoundOf}
@@ -13,7 +13,7 @@ use Rattle.call_regions.specs.Calling.{IsTargetsFirst}
 use Rattle.call_regions.specs.Laws.{OrderExcludesCycles}
 use Rattle.answer_lines.specs.declared.bound.BoundCause.{BoundCause}
 use Rattle.answer_lines.specs.declared.bound.BoundCause.TheVariants as causes
-use Rattle.wcet.proofs.Pushed.{push_cases}
+use Rattle.bound_finder.proofs.Pushed.{push_cases}
 use Rattle.method_bounds.specs.declared.loops.Loops.{Loops}
 use Rattle.method_bounds.specs.Loops.{AreLoopsOf}
 use Rattle.method_bounds.specs.Placing.{AreBoundable}

@@ -7,17 +7,17 @@ use Rattle.std.proofs.lemmas.List.Elements.{Contains-push_cases}
 use Rattle.std.proofs.lemmas.Option.{slice_get-get_or, slice_get-map, slice_get_within, get_or_from_slice_get}
 use Rattle.lists.proofs.Lemmas.{map_some}
 use Rattle.lists.specs.Members.{nil_contains}
-use Rattle.loop_bounds.specs.Bounds.{LoopBound}
+use Rattle.bound_texts.specs.Loops.Bounds.{LoopBound}
 use Rattle.bytecode_model.specs.Program.{Program}
 use Rattle.method_flow.specs.Flow.{Flow, IsFlowOf}
 use Rattle.method_flow.specs.Keeping.{BoundOf}
 use Rattle.method_flow.specs.declared.timing.Timing.{Timing}
 use Rattle.node_costs.specs.Costs.{bounds_of}
 use Rattle.answer_lines.specs.declared.bound.BoundCause.{BoundCause}
-use Rattle.wcet.specs.declared.ending.MethodBound.{MethodBound}
-use Rattle.wcet.specs.declared.ending.MethodBound.TheVariants as bounds
-use Rattle.wcet.specs.Ending.{IsMethodBound}
-use Rattle.wcet.proofs.Growing.{at_front, at_last}
+use Rattle.bound_finder.specs.declared.ending.MethodBound.{MethodBound}
+use Rattle.bound_finder.specs.declared.ending.MethodBound.TheVariants as bounds
+use Rattle.bound_finder.specs.Ending.{IsMethodBound}
+use Rattle.bound_finder.proofs.Growing.{at_front, at_last}
 use Rattle.method_bounds.specs.declared.answer.BoundAnswer.{BoundAnswer}
 use Rattle.method_bounds.specs.Answers.{IsBoundAnswer}
 use Rattle.method_bounds.specs.Answering.{answer_by, refused_by, IsWrittenBy, AreWritten}

@@ -1,7 +1,7 @@
 -- How answers are written: of some methods by causes, and of the others by bounds.
 use Rattle.std.specs.Prelude.{◌≡◌, ◌⊎◌, ℕ, List, length, Contains, Option, Some, None, slice_get}
-use Rattle.wcet.specs.declared.ending.MethodBound.{MethodBound}
-use Rattle.wcet.specs.declared.ending.MethodBound.TheVariants as bounds
+use Rattle.bound_finder.specs.declared.ending.MethodBound.{MethodBound}
+use Rattle.bound_finder.specs.declared.ending.MethodBound.TheVariants as bounds
 use Rattle.answer_lines.specs.declared.bound.BoundCause.{BoundCause}
 use Rattle.answer_lines.specs.declared.bound.BoundCause.TheVariants as causes
 use Rattle.method_bounds.specs.declared.answer.BoundAnswer.{BoundAnswer}

@@ -9,7 +9,7 @@ use Rattle.answer_lines.specs.declared.bound.BoundCause.{BoundCause}
 use Rattle.answer_lines.specs.declared.bound.BoundCause.TheVariants.{NoMethod, Recursion, Irreducible, MissingBound, TooLarge}
 use Rattle.bound_rules.specs.Bounding.{HasNoRecursion, AreReducible, HaveLines, HasNoCause, IsFirstIrreducible, IsFirstLacking, IsFirstTooLarge}
 use Rattle.bound_rules.specs.Numbers.{IsPrinted}
-use Rattle.wcet.specs.Certified.{IsCertified}
+use Rattle.bound_finder.specs.Certified.{IsCertified}
 use Rattle.method_bounds.specs.declared.answer.BoundAnswer.{BoundAnswer}
 use Rattle.method_bounds.specs.declared.answer.BoundAnswer.TheVariants.{Cycles, Never, Refused}
 

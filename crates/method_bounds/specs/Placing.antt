@@ -1,10 +1,10 @@
 -- An order of methods that grows, and which methods stand in it.
 use Rattle.std.specs.Prelude.{◌≡◌, ◌↔◌, ◌⊎◌, ℕ, ◌<◌, true, false, List, [], ◌∷◌, ◌++◌, length, All, Contains, slice_index_or}
-use Rattle.cache_regions.specs.Region.{AreDistinct}
+use Rattle.method_cache.specs.Regions.Region.{AreDistinct}
 use Rattle.bytecode_model.specs.Program.{Program}
 use Rattle.method_flow.specs.Keeping.{BoundOf}
 use Rattle.bound_rules.specs.Bounding.{HasNoRecursion}
-use Rattle.wcet.specs.Ready.{AreReady}
+use Rattle.bound_finder.specs.Ready.{AreReady}
 use Rattle.method_bounds.specs.declared.placing.Placing.{Placing}
 
 -- the methods stand each once in the order, and the marks say which do

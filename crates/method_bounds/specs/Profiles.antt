@@ -1,7 +1,7 @@
 -- The lines of a profile: of each method of which an activation has ended its name, how many have, the greatest and the sum of their cycles, the sum of their
 -- misses, and its bound.
 use Rattle.std.specs.Prelude.{◌==◌, ℕ, suc, List, [], ◌∷◌, ◌++◌, codes, decimal, if◌then◌else◌}
-use Rattle.activation_watch.specs.declared.profile.Profile.{Profile}
+use Rattle.run_follower.specs.declared.watch.profile.Profile.{Profile}
 use Rattle.method_bounds.specs.declared.answer.BoundAnswer.{BoundAnswer}
 use Rattle.method_bounds.specs.declared.answer.BoundAnswer.TheVariants.{Cycles, Never, Refused}
 

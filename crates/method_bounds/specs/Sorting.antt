@@ -1,6 +1,6 @@
 -- Which methods only a size forbids a bound of, and what forbids one of each other.
 use Rattle.std.specs.Prelude.{◌≡◌, ℕ, List, Contains, Option, Some, None, MatchOption, slice_get}
-use Rattle.loop_bounds.specs.Bounds.{LoopBound}
+use Rattle.bound_texts.specs.Loops.Bounds.{LoopBound}
 use Rattle.bytecode_model.specs.Program.{Program}
 use Rattle.method_flow.specs.Flow.{Flow, IsFlowOf}
 use Rattle.method_flow.specs.Keeping.{BoundOf}

@@ -13,10 +13,10 @@ use super::answer::BoundAnswer;
 use super::sorting::Sorted;
 use answer_lines::BoundCause;
 use base::NoMemory;
-use loop_bounds::Bounds;
+use bound_finder::{MethodBound, bounds_of_all};
+use bound_texts::loops::Bounds;
 use method_flow::{FlowProgram, Timing};
 use std::alloc::Global;
-use wcet::{MethodBound, bounds_of_all};
 
 /// What is answered where only a size may forbid a bound.
 fn answer_by(bound: MethodBound) -> BoundAnswer

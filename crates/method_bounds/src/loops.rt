@@ -8,7 +8,7 @@ ghost use Rattle.method_bounds.specs.Loops.{AreLoops, AreLoopsOf};
 use base::NoMemory;
 use bound_causes::unbounded_in;
 use bound_rules::BoundRefusal;
-use loop_bounds::Bounds;
+use bound_texts::loops::Bounds;
 use method_flow::FlowProgram;
 use std::alloc::Global;
 

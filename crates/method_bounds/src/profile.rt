@@ -6,10 +6,10 @@ ghost use Rattle.method_bounds.specs.Lines.{name_in};
 ghost use Rattle.method_bounds.specs.Profiles.{bound_word, profile_line, profile_lines};
 
 use super::answer::BoundAnswer;
-use activation_watch::Profile;
 use answer_lines::{Piece, put_pieces};
 use method_flow::FlowProgram;
 use outside::{Failed, Sink};
+use run_follower::watch::Profile;
 
 /// The bound, as a profile's line has it.
 fn bound_piece(answer: BoundAnswer) -> Piece<'static>

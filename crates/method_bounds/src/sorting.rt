@@ -1,6 +1,6 @@
 //! The methods that only a size forbids a bound of, each behind all that it may call; and what forbids one of each other.
 ghost use Rattle.std.specs.Prelude.{◌≡◌, ◌<◌, List, [], length, All, IfOk};
-ghost use Rattle.loop_bounds.specs.Bounds.{LoopBound};
+ghost use Rattle.bound_texts.specs.Loops.Bounds.{LoopBound};
 ghost use Rattle.call_regions.specs.Regions.{AreKnown};
 ghost use Rattle.method_bounds.specs.Loops.{AreLoopsOf};
 ghost use Rattle.method_bounds.specs.Placing.{IsPlacing};

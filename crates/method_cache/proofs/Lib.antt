@@ -11,3 +11,4 @@ pub mod Lookups
 pub mod Fresh
 pub mod Longest
 pub mod Occupied
+pub mod RegionsLemmas

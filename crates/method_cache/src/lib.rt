@@ -15,6 +15,7 @@ use std::alloc::Global;
 use std::marker::Model;
 
 mod blocks;
+pub mod regions;
 
 /// The most blocks of a cache.
 pub const MAX_BLOCKS: u32 = 256;

@@ -1,7 +1,7 @@
 -- Cycles of calls among the methods that may run while one does.
 use Rattle.std.specs.Prelude.{ℕ, List, [], ◌∷◌, All}
 use Rattle.bytecode_model.specs.Program.{Program}
-use Rattle.cache_regions.specs.Region.{AreDistinct}
+use Rattle.method_cache.specs.Regions.Region.{AreDistinct}
 use Rattle.method_flow.specs.Calls.{IsCall, IsStartOf, IsTarget}
 use Rattle.method_flow.specs.Regions.{IsWithin}
 

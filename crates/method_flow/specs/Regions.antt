@@ -3,7 +3,7 @@
 use Rattle.std.specs.Prelude.{◌≡◌, ◌↔◌, ℕ, ◌*◌, ◌≤◌, List, length, sum_by, Contains, IsSome, Some, None}
 use Rattle.base.specs.Packed.{words_for}
 use Rattle.method_cache.specs.Contents.{blocks_for}
-use Rattle.cache_regions.specs.Region.{AreDistinct, load_stall}
+use Rattle.method_cache.specs.Regions.Region.{AreDistinct, load_stall}
 use Rattle.bytecode_model.specs.Program.{Program, body_of}
 use Rattle.method_flow.specs.Calls.{IsCall, IsStartOf, IsTarget}
 

@@ -4,3 +4,4 @@ pub mod Leading
 pub mod Ending
 pub mod Following
 pub mod Running
+pub mod TypedGraphsLemmas

@@ -1,10 +1,10 @@
 -- The greatest walk from an address, from tables over the whole ROM that are found and tested by computing.
 use Rattle.std.proofs.Common.{◌≡◌, ℕ, suc, zero, ◌+◌, ◌-◌, ◌*◌, ◌≤◌, ◌&&◌, ◌||◌, ◌==◌, Bool, true, false, nat_lt, if◌then◌else◌, List, [], ◌∷◌, ◌++◌, length, take, drop, inl, inr, Option, Some, None, get_or, refl, sym, ap, ◌∙◌, subst, arith, ltb-true, ltb-false, eqb-true}
-use Rattle.micro_isa.specs.declared.Body.TheVariants.{Plain, Stm, Ldm, Ldi, Bz, Bnz, Jmp}
-use Rattle.micro_isa.specs.declared.Micro.{Micro}
-use Rattle.micro_isa.specs.Operations.{operation_of}
-use Rattle.micro_isa.specs.Words.{micro_of}
-use Rattle.microcode_rom.specs.declared.TheConstants.{RAISE}
+use Rattle.microcode.specs.declared.isa.Body.TheVariants.{Plain, Stm, Ldm, Ldi, Bz, Bnz, Jmp}
+use Rattle.microcode.specs.declared.isa.Micro.{Micro}
+use Rattle.microcode.specs.Isa.Operations.{operation_of}
+use Rattle.microcode.specs.Isa.Words.{micro_of}
+use Rattle.microcode.specs.declared.TheConstants.{RAISE}
 use Rattle.micro_flow.specs.declared.CostParams.{CostParams}
 use Rattle.micro_flow.specs.declared.price.Price.{Price}
 use Rattle.micro_flow.specs.Costs.{worth, larger}

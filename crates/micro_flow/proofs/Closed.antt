@@ -1,7 +1,7 @@
 -- The marks of the ROM: the addresses that are no opcode's entry, and those that lead to no raise.
 use Rattle.std.proofs.Common.{◌≡◌, ℕ, suc, zero, ◌+◌, ◌-◌, ◌<◌, ◌&&◌, ◌==◌, Bool, true, false, nat_lt, if◌then◌else◌, List, [], ◌∷◌, length, get_or, set, ⊎_elim, refl, sym, ap, ◌∙◌, arith, ltb-true}
-use Rattle.micro_isa.specs.Words.{micro_of}
-use Rattle.microcode_rom.specs.declared.TheConstants.{WORDS, ENTRIES, RAISE}
+use Rattle.microcode.specs.Isa.Words.{micro_of}
+use Rattle.microcode.specs.declared.TheConstants.{WORDS, ENTRIES, RAISE}
 use Rattle.opcodes.specs.Row.{row_of}
 use Rattle.micro_flow.specs.Walk.{begin}
 use Rattle.micro_flow.specs.Closed.{EntriesInside, RaiseApart, ReachedByDispatch, RaisesWhereItMay}

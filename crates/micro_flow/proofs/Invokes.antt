@@ -1,7 +1,7 @@
 -- Which of the invokes costs most.
 use Rattle.std.proofs.Common.{◌≡◌, ℕ, suc, ◌≤◌, Bool, true, false, nat_le, max, get_or, refl, sym, subst, arith, leb-true, leb-false}
 use Rattle.std.proofs.Math.Nat.{le-max_left, le-max_right, max-eq_left, max-eq_right}
-use Rattle.microcode_rom.specs.declared.TheConstants.{ENTRIES}
+use Rattle.microcode.specs.declared.TheConstants.{ENTRIES}
 use Rattle.micro_flow.specs.declared.CostParams.{CostParams}
 use Rattle.micro_flow.specs.Walk.{IsCost}
 use Rattle.micro_flow.specs.Costs.{IsGreatestInvoke}

@@ -1,11 +1,11 @@
 -- Marks of addresses that no walk leaves, tested by computing.
 use Rattle.std.proofs.Common.{◌≡◌, ℕ, suc, zero, ◌+◌, ◌%◌, ◌<◌, ◌&&◌, ◌||◌, Bool, true, false, if◌then◌else◌, List, [], ◌∷◌, length, Option, Some, None, get_or, ◌⊎◌, inl, inr, ⊎_elim, refl, sym, ap, ◌∙◌, arith}
-use Rattle.micro_isa.specs.declared.Body.{Body}
-use Rattle.micro_isa.specs.declared.Body.TheVariants.{Plain, Stm, Ldm, Ldi, Bz, Bnz, Jmp}
-use Rattle.micro_isa.specs.declared.Micro.{Micro}
-use Rattle.micro_isa.specs.Operations.{operation_of}
-use Rattle.micro_isa.specs.Words.{micro_of}
-use Rattle.microcode_rom.specs.declared.TheConstants.{WORDS}
+use Rattle.microcode.specs.declared.isa.Body.{Body}
+use Rattle.microcode.specs.declared.isa.Body.TheVariants.{Plain, Stm, Ldm, Ldi, Bz, Bnz, Jmp}
+use Rattle.microcode.specs.declared.isa.Micro.{Micro}
+use Rattle.microcode.specs.Isa.Operations.{operation_of}
+use Rattle.microcode.specs.Isa.Words.{micro_of}
+use Rattle.microcode.specs.declared.TheConstants.{WORDS}
 use Rattle.micro_flow.specs.declared.CostParams.{CostParams}
 use Rattle.micro_flow.specs.Walk.{Walker, TimeKind, Waits, Reads, Writes, Halts, Other, kind_of, passed, onward, turned, branched, timed, stops, step, going, walk}
 use Rattle.micro_flow.proofs.Prices.{first, second}

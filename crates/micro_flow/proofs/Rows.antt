@@ -1,9 +1,9 @@
 -- The prices of the table are the greatest walks of the rows.
 use Rattle.std.proofs.Common.{◌≡◌, ℕ, suc, zero, ◌+◌, ◌-◌, ◌++◌, ◌*◌, Bool, true, false, ◌==◌, ◌&&◌, if◌then◌else◌, List, [], ◌∷◌, Some, slice_get, get_or, refl, sym, ap, ◌∙◌, subst, eqb-true}
-use Rattle.micro_isa.specs.declared.Turns.{Turns}
-use Rattle.micro_isa.specs.declared.Turns.TheVariants.{Count, PerPair, PerEntry}
-use Rattle.microcode_rom.specs.declared.TheConstants.{WORDS, ENTRIES, RAISE}
-use Rattle.microcode_rom.specs.declared.addresses.TheConstants.{DIVIDE_TURN, DIVIDE_SIGNS, LOOKUP_TURN, LOOKUP_HIT, HANDLER_TURN, HANDLER_FOUND}
+use Rattle.microcode.specs.declared.isa.Turns.{Turns}
+use Rattle.microcode.specs.declared.isa.Turns.TheVariants.{Count, PerPair, PerEntry}
+use Rattle.microcode.specs.declared.TheConstants.{WORDS, ENTRIES, RAISE}
+use Rattle.microcode.specs.declared.addresses.TheConstants.{DIVIDE_TURN, DIVIDE_SIGNS, LOOKUP_TURN, LOOKUP_HIT, HANDLER_TURN, HANDLER_FOUND}
 use Rattle.micro_flow.specs.declared.CostParams.{CostParams}
 use Rattle.micro_flow.specs.declared.price.Price.{Price}
 use Rattle.micro_flow.specs.declared.price.RowCost.{RowCost}

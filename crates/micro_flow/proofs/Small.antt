@@ -1,8 +1,8 @@
 -- No opcode costs too much to count.
 use Rattle.std.proofs.Common.{◌≡◌, ℕ, zero, suc, ◌+◌, ◌*◌, ◌^◌, ◌<◌, ◌≤◌, ◌&&◌, Bool, true, false, nat_lt, if◌then◌else◌, List, [], ◌∷◌, length, slice_get, get_or, Some, refl, sym, subst, arith, ltb-true, ltb-false, mul-le-mul_left}
-use Rattle.micro_isa.specs.declared.Turns.{Turns}
-use Rattle.micro_isa.specs.declared.Turns.TheVariants.{Count, PerPair, PerEntry}
-use Rattle.microcode_rom.specs.declared.TheConstants.{ENTRIES}
+use Rattle.microcode.specs.declared.isa.Turns.{Turns}
+use Rattle.microcode.specs.declared.isa.Turns.TheVariants.{Count, PerPair, PerEntry}
+use Rattle.microcode.specs.declared.TheConstants.{ENTRIES}
 use Rattle.micro_flow.specs.declared.CostParams.{CostParams}
 use Rattle.micro_flow.specs.declared.price.Price.{Price}
 use Rattle.micro_flow.specs.declared.price.RowCost.{RowCost}

@@ -1,6 +1,6 @@
 -- Where walks of the ROM can come to.
 use Rattle.std.specs.Prelude.{◌≡◌, ◌≢◌, ℕ, ◌<◌, Bool, true, false, List, ◌∷◌, length, slice_index}
-use Rattle.microcode_rom.specs.declared.TheConstants.{WORDS, ENTRIES, RAISE}
+use Rattle.microcode.specs.declared.TheConstants.{WORDS, ENTRIES, RAISE}
 use Rattle.opcodes.specs.Row.{row_of}
 use Rattle.micro_flow.specs.declared.CostParams.{CostParams}
 use Rattle.micro_flow.specs.Walk.{walk, begin}

@@ -1,16 +1,16 @@
 -- Walks of the ROM from an address to a boundary, and the cycles that they take.
 use Rattle.std.specs.Prelude.{ℕ, suc, pred, ◌≡◌, ◌+◌, ◌-◌, ◌%◌, ◌≤◌, Bool, true, false, ◌==◌, ◌&&◌, ◌||◌, nat_lt, if◌then◌else◌, List, [], ◌∷◌, Option, Some}
 use Rattle.std.specs.Prelude.{None, slice_index}
-use Rattle.micro_isa.specs.declared.Body.TheVariants.{Plain, Stm, Ldm, Ldi, Bz, Bnz, Jmp}
-use Rattle.micro_isa.specs.declared.Micro.{Micro}
-use Rattle.micro_isa.specs.declared.Turns.{Turns}
-use Rattle.micro_isa.specs.declared.Turns.TheVariants.{Count, PerPair, PerEntry}
-use Rattle.micro_isa.specs.declared.operation.Operation.{Operation}
-use Rattle.micro_isa.specs.declared.operation.Operation.TheVariants.{Wait, Stmra, Stmwd, Hltb, Hltu}
-use Rattle.micro_isa.specs.Operations.{operation_of}
-use Rattle.micro_isa.specs.Words.{micro_of}
-use Rattle.microcode_rom.specs.declared.TheConstants.{WORDS, ENTRIES, TURNS, RAISE}
-use Rattle.microcode_rom.specs.Tables.{turns_in}
+use Rattle.microcode.specs.declared.isa.Body.TheVariants.{Plain, Stm, Ldm, Ldi, Bz, Bnz, Jmp}
+use Rattle.microcode.specs.declared.isa.Micro.{Micro}
+use Rattle.microcode.specs.declared.isa.Turns.{Turns}
+use Rattle.microcode.specs.declared.isa.Turns.TheVariants.{Count, PerPair, PerEntry}
+use Rattle.microcode.specs.declared.isa.operation.Operation.{Operation}
+use Rattle.microcode.specs.declared.isa.operation.Operation.TheVariants.{Wait, Stmra, Stmwd, Hltb, Hltu}
+use Rattle.microcode.specs.Isa.Operations.{operation_of}
+use Rattle.microcode.specs.Isa.Words.{micro_of}
+use Rattle.microcode.specs.declared.TheConstants.{WORDS, ENTRIES, TURNS, RAISE}
+use Rattle.microcode.specs.Tables.{turns_in}
 use Rattle.micro_flow.specs.declared.CostParams.{CostParams}
 
 -- how many times turns are

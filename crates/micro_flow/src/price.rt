@@ -4,7 +4,7 @@ ghost use Rattle.micro_flow.specs.Walk.{times_of};
 ghost use Rattle.micro_flow.specs.Costs.{worth, total};
 
 use crate::CostParams;
-use micro_isa::Turns;
+use microcode::isa::Turns;
 
 /// So many cycles, and the waits of so many reads and writes.
 #[derive(Clone, Copy)]

@@ -2,7 +2,7 @@
 ghost use Rattle.std.specs.Prelude.{◌≡◌, Some, slice_get};
 
 use crate::price::{Price, RowCost};
-use micro_isa::Turns;
+use microcode::isa::Turns;
 
 macro_rules! price {
     ($fixed:literal $reads:literal $writes:literal) => {

@@ -7,7 +7,7 @@ use Rattle.jop_core.specs.declared.halt.Halt.TheVariants.{Running}
 use Rattle.jop_core.specs.Scene.{Scene}
 use Rattle.micro_sketch.specs.Sketch.{Sketch, lead, opd_byte, settled, off_entry, off_raise, among, stopped}
 use Rattle.micro_sketch.specs.Stands.{Env, Shaped, conc, scene}
-use Rattle.microcode_rom.specs.declared.TheConstants.{ENTRIES, RAISE}
+use Rattle.microcode.specs.declared.TheConstants.{ENTRIES, RAISE}
 use Rattle.micro_sketch.proofs.Counts.{was_flags}
 
 -- a scene of a state

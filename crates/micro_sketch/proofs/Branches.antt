@@ -1,8 +1,8 @@
 -- Branches of the microcode.
 use Rattle.std.proofs.Common.{◌≡◌, ℕ, suc, zero, ◌+◌, ◌-◌, ◌%◌, ◌<◌, ◌&&◌, ◌||◌, ◌==◌, Bool, true, false, [], ◌∷◌, get_or, nat_lt, if◌then◌else◌, refl, sym, ap, ◌∙◌, subst, arith, Some}
 use Rattle.std.proofs.lemmas.Bool.{and_parts}
-use Rattle.micro_isa.specs.declared.Micro.{Micro}
-use Rattle.micro_isa.specs.Words.{micro_of}
+use Rattle.microcode.specs.declared.isa.Micro.{Micro}
+use Rattle.microcode.specs.Isa.Words.{micro_of}
 use Rattle.jop_core.specs.Cycle.{branched, waits, at_boundary, is_running}
 use Rattle.jop_core.specs.declared.halt.Halt.TheVariants.{Running}
 use Rattle.jop_core.specs.Scene.{Scene, next_scene, run}
@@ -11,7 +11,7 @@ use Rattle.micro_flow.specs.Walk.{Walker, passed, arrived, used, turned, step, w
 use Rattle.micro_flow.specs.Walk as f
 use Rattle.micro_sketch.specs.Sketch.{Sketch, jumped, aturned, settled, off_entry, stopped}
 use Rattle.micro_sketch.specs.Stands.{Env, Shaped, Goes, Reaches, Tells, PortFits, conc, scene, tick}
-use Rattle.microcode_rom.specs.declared.TheConstants.{WORDS, RAISE}
+use Rattle.microcode.specs.declared.TheConstants.{WORDS, RAISE}
 use Rattle.micro_sketch.proofs.Counts.{Keeps}
 use Rattle.micro_sketch.proofs.Boundaries.{Same, around, settled_end}
 use Rattle.micro_sketch.proofs.Cycles.{lead_runs, ran_scene, scene_runs, stalls_same, step_at, ticked_port}

@@ -1,6 +1,6 @@
 -- No run from an entry to a boundary takes more than the cost and the stalls of its loads.
 use Rattle.std.proofs.Common.{ℕ, ◌+◌, ◌≤◌, refl, sym, ◌∙◌, arith, slice_index}
-use Rattle.microcode_rom.specs.declared.TheConstants.{ENTRIES, RAISE}
+use Rattle.microcode.specs.declared.TheConstants.{ENTRIES, RAISE}
 use Rattle.micro_flow.specs.declared.CostParams.{CostParams}
 use Rattle.micro_flow.specs.Walk.{begin, IsGreatestTime, IsCost, IsRaiseCost}
 use Rattle.micro_sketch.specs.Sketch.{Sketch}

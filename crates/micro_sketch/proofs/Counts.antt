@@ -1,20 +1,20 @@
 -- What a step of the sketch counts, and that one that ends well began well.
 use Rattle.std.proofs.Common.{◌^◌, ◌≡◌, ℕ, suc, zero, ◌+◌, ◌-◌, ◌&&◌, ◌||◌, ◌==◌, length, ◌%◌, Bool, true, false, List, [], ◌∷◌, ◌++◌, get_or, nat_lt, if◌then◌else◌, refl, ap, Option, Some, None}
 use Rattle.std.proofs.lemmas.Bool.{and_parts}
-use Rattle.micro_isa.specs.declared.Body.{Body}
-use Rattle.micro_isa.specs.declared.Body.TheVariants.{Plain, Stm, Ldm, Ldi, Bz, Bnz, Jmp}
-use Rattle.micro_isa.specs.declared.Micro.{Micro}
-use Rattle.micro_isa.specs.Operations.{operation_of}
-use Rattle.micro_isa.specs.Words.{micro_of}
-use Rattle.micro_isa.specs.declared.operation.Operation.{Operation}
-use Rattle.micro_isa.specs.declared.operation.Operation.TheVariants.{Nop, Pop, Dup, Add, Sub, And, Or, Xor, Shl, Shr, Ushr, Mul, Slt, Sltu, Ldo, Ldo8, Ldo16, Ldl, Stl, Ld0, Ld1, Ld2, Ld3, St0, St1, St2, St3, Ldvp, Stvp, Ldsp, Stsp, Ldjpc, Stjpc, Star, Ldmi, Stmi, Stmra, Stmwa, Stmwd, Wait, Ldmrd, Stbc, Jbr, Jbg, Ldin, Stout, Hltb, Hltu}
+use Rattle.microcode.specs.declared.isa.Body.{Body}
+use Rattle.microcode.specs.declared.isa.Body.TheVariants.{Plain, Stm, Ldm, Ldi, Bz, Bnz, Jmp}
+use Rattle.microcode.specs.declared.isa.Micro.{Micro}
+use Rattle.microcode.specs.Isa.Operations.{operation_of}
+use Rattle.microcode.specs.Isa.Words.{micro_of}
+use Rattle.microcode.specs.declared.isa.operation.Operation.{Operation}
+use Rattle.microcode.specs.declared.isa.operation.Operation.TheVariants.{Nop, Pop, Dup, Add, Sub, And, Or, Xor, Shl, Shr, Ushr, Mul, Slt, Sltu, Ldo, Ldo8, Ldo16, Ldl, Stl, Ld0, Ld1, Ld2, Ld3, St0, St1, St2, St3, Ldvp, Stvp, Ldsp, Stsp, Ldjpc, Stjpc, Star, Ldmi, Stmi, Stmra, Stmwa, Stmwd, Wait, Ldmrd, Stbc, Jbr, Jbg, Ldin, Stout, Hltb, Hltu}
 use Rattle.jop_core.specs.Operations.{sign_extended8, sign_extended16, input_word}
 use Rattle.jop_core.specs.Cycle.{is_ldin, is_stout}
 use Rattle.jop_core.specs.declared.halt.Halt.{Halt}
 use Rattle.jop_core.specs.declared.halt.Halt.TheVariants.{Ended, Uncaught}
 use Rattle.jop_core.specs.Scene.{left_over, first_of, rest_of}
 use Rattle.micro_sketch.specs.Sketch.{Sketch, apush, apop, need, inside, astm, aplain, astep, exec, lead, opd_byte, jumped, same_bool, is_guessed, first_or, rest_if, settled, off_entry, off_raise, aturned, can_find, stopped, goes, going}
-use Rattle.microcode_rom.specs.declared.TheConstants.{WORDS, CONSTANTS}
+use Rattle.microcode.specs.declared.TheConstants.{WORDS, CONSTANTS}
 
 -- what a microinstruction mostly keeps
 pub record Part : Type 0 where

@@ -1,7 +1,7 @@
 -- A microinstruction of one cycle, as the machine and a walk see it.
 use Rattle.std.proofs.Common.{◌≡◌, ℕ, ◌+◌, ◌%◌, ◌&&◌, ◌||◌, ◌==◌, Bool, true, false, List, [], ◌∷◌, ◌++◌, get_or, if◌then◌else◌, refl, sym, ap, ◌∙◌, subst, arith, Option, Some}
-use Rattle.micro_isa.specs.declared.Micro.{Micro}
-use Rattle.micro_isa.specs.Words.{micro_of}
+use Rattle.microcode.specs.declared.isa.Micro.{Micro}
+use Rattle.microcode.specs.Isa.Words.{micro_of}
 use Rattle.jop_core.specs.State.{MachineState}
 use Rattle.jop_core.specs.Cycle.{cycle_of, performed, with_nxt, with_opd, waits, ran, is_running, output_of, asks_input, asks, body_asks, puts}
 use Rattle.jop_core.specs.declared.halt.Halt.{Halt}
@@ -12,7 +12,7 @@ use Rattle.micro_flow.specs.Walk.{Walker, onward, step, walk}
 use Rattle.micro_flow.specs.Walk as f
 use Rattle.micro_sketch.specs.Sketch.{Sketch, lead, opd_byte}
 use Rattle.micro_sketch.specs.Stands.{Env, Does, Goes, Reaches, Tells, PortFits, conc, scene, tick, stalls, stalls_for}
-use Rattle.microcode_rom.specs.declared.TheConstants.{WORDS, RAISE}
+use Rattle.microcode.specs.declared.TheConstants.{WORDS, RAISE}
 use Rattle.micro_sketch.proofs.Boundaries.{around, flags_end, flags_keep, flags_same, flags_shape}
 
 pub ticked_port : (b : Bool) (e : Env) → PortFits b e → PortFits b (tick e)

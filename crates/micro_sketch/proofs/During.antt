@@ -2,7 +2,7 @@
 use Rattle.std.proofs.Common.{◌≡◌, ℕ, zero, suc, ◌+◌, ◌%◌, ◌^◌, Bool, true, false, List, [], ◌∷◌, ◌++◌, reverse, nat_lt, if◌then◌else◌, None, Some, refl, sym, ap, ◌∙◌, subst, arith, append_assoc, append-nil, add-zero, add-suc}
 use Rattle.std.specs.declared.option.Option.{Option}
 use Rattle.std.proofs.lemmas.List.{reverse-append}
-use Rattle.micro_isa.specs.declared.Micro.{Micro}
+use Rattle.microcode.specs.declared.isa.Micro.{Micro}
 use Rattle.jop_core.specs.State.{MachineState, seen_of}
 use Rattle.jop_core.specs.Cycle.{output_of, puts, body_outputs, micro_at}
 use Rattle.jop_core.specs.Ticked.{notes_of}

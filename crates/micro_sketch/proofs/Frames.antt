@@ -3,10 +3,10 @@ use Rattle.std.proofs.Common.{◌≡◌, ℕ, ◌+◌, ◌-◌, ◌%◌, ◌^◌
 use mathlib.Core.List.{reverse_aux}
 use Rattle.std.proofs.Math.ListN.{length-reverse_aux}
 use Rattle.std.proofs.Math.Nat.{mod-eq_of_lt}
-use Rattle.micro_isa.specs.declared.Body.TheVariants.{Plain}
-use Rattle.micro_isa.specs.declared.Micro.{Micro}
-use Rattle.micro_isa.specs.declared.operation.Operation.TheVariants.{Stsp}
-use Rattle.micro_isa.specs.Operations.{operation_of}
+use Rattle.microcode.specs.declared.isa.Body.TheVariants.{Plain}
+use Rattle.microcode.specs.declared.isa.Micro.{Micro}
+use Rattle.microcode.specs.declared.isa.operation.Operation.TheVariants.{Stsp}
+use Rattle.microcode.specs.Isa.Operations.{operation_of}
 use Rattle.micro_flow.specs.Walk.{passed, onward, stops, timed, kind_of}
 use Rattle.jop_core.specs.State.{MachineState}
 use Rattle.jop_core.specs.Scene.{given, left_over}

@@ -1,11 +1,11 @@
 -- Look-ups of the method cache, and the stalls of its loads.
 use Rattle.std.proofs.Common.{◌^◌, ◌≡◌, ℕ, suc, ◌+◌, ◌-◌, ◌*◌, ◌%◌, ◌&&◌, Bool, true, false, List, [], ◌∷◌, ◌++◌, get_or, nat_lt, if◌then◌else◌, refl, sym, ap, ◌∙◌, subst, arith, Option, Some, None}
 use Rattle.std.proofs.lemmas.Bool.{and_parts}
-use Rattle.micro_isa.specs.declared.Body.TheVariants.{Plain}
-use Rattle.micro_isa.specs.declared.Micro.{Micro}
-use Rattle.micro_isa.specs.Operations.{operation_of}
-use Rattle.micro_isa.specs.Words.{micro_of}
-use Rattle.micro_isa.specs.declared.operation.Operation.TheVariants.{Stbc}
+use Rattle.microcode.specs.declared.isa.Body.TheVariants.{Plain}
+use Rattle.microcode.specs.declared.isa.Micro.{Micro}
+use Rattle.microcode.specs.Isa.Operations.{operation_of}
+use Rattle.microcode.specs.Isa.Words.{micro_of}
+use Rattle.microcode.specs.declared.isa.operation.Operation.TheVariants.{Stbc}
 use Rattle.jop_core.specs.State.{MachineState}
 use Rattle.jop_core.specs.Operations.{popped, operated, looked_up, load_stall, code_words, code_of}
 use Rattle.jop_core.specs.Cycle.{with_nxt, with_opd, is_wait, at_boundary, is_ldin, is_stout}
@@ -14,7 +14,7 @@ use Rattle.jop_core.specs.Scene.{Scene, next_scene, run, given, left_over}
 use Rattle.micro_flow.specs.Walk.{Other, kind_of, Walker, onward, timed, stops, walk}
 use Rattle.micro_sketch.specs.Sketch.{Sketch, apop, aplain, lead, opd_byte, missed, can_find}
 use Rattle.micro_sketch.specs.Stands.{Env, Shaped, Goes, Reaches, Tells, PortFits, conc, scene, tick, stalls, stalls_for}
-use Rattle.microcode_rom.specs.declared.TheConstants.{WORDS}
+use Rattle.microcode.specs.declared.TheConstants.{WORDS}
 use Rattle.micro_sketch.proofs.OnChip.{pop_sim}
 use Rattle.micro_sketch.proofs.Boundaries.{around, flags_end, flags_fine, flags_keep, flags_shape, off_is}
 use Rattle.micro_sketch.proofs.Cycles.{lead_runs, onward_clock, opd_halt, opd_left, opd_mpc, scene_runs, stalls_same, step_at}

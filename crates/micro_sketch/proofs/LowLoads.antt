@@ -1,10 +1,10 @@
 -- The load of a word below place 32.
 use Rattle.std.proofs.Common.{◌≡◌, ◌-◌, ◌%◌, ◌^◌, ℕ, ◌<◌, ◌&&◌, ◌||◌, ◌++◌, ◌∷◌, [], Bool, true, false, nat_lt, if◌then◌else◌, get_or, refl, sym, ap, ◌∙◌, subst, arith, None, Option}
 use Rattle.std.proofs.Math.Nat.{mod-eq_of_lt}
-use Rattle.micro_isa.specs.declared.Body.TheVariants.{Plain}
-use Rattle.micro_isa.specs.declared.Micro.{Micro}
-use Rattle.micro_isa.specs.declared.operation.Operation.TheVariants.{Ldmi}
-use Rattle.micro_isa.specs.Operations.{operation_of}
+use Rattle.microcode.specs.declared.isa.Body.TheVariants.{Plain}
+use Rattle.microcode.specs.declared.isa.Micro.{Micro}
+use Rattle.microcode.specs.declared.isa.operation.Operation.TheVariants.{Ldmi}
+use Rattle.microcode.specs.Isa.Operations.{operation_of}
 use Rattle.micro_flow.specs.Walk.{kind_of, passed, onward, timed, stops}
 use Rattle.jop_core.specs.Operations.{pushed, operated}
 use Rattle.jop_core.specs.Cycle.{is_wait, is_ldin, is_stout}

@@ -1,12 +1,12 @@
 -- The microinstructions of one cycle.
 use Rattle.std.proofs.Common.{◌≡◌, ℕ, ◌+◌, ◌-◌, ◌<◌, ◌&&◌, ◌||◌, Bool, true, false, get_or, nat_lt, refl, sym, ap, ◌∙◌, subst, Some, ltb-true}
 use Rattle.std.proofs.lemmas.Bool.{and_parts}
-use Rattle.micro_isa.specs.declared.Body.TheVariants.{Plain}
-use Rattle.micro_isa.specs.declared.Micro.{Micro}
-use Rattle.micro_isa.specs.Operations.{operation_of}
-use Rattle.micro_isa.specs.Words.{micro_of}
-use Rattle.micro_isa.specs.declared.operation.Operation.{Operation}
-use Rattle.micro_isa.specs.declared.operation.Operation.TheVariants.{Stmra, Stmwd, Wait, Stbc, Hltb, Hltu}
+use Rattle.microcode.specs.declared.isa.Body.TheVariants.{Plain}
+use Rattle.microcode.specs.declared.isa.Micro.{Micro}
+use Rattle.microcode.specs.Isa.Operations.{operation_of}
+use Rattle.microcode.specs.Isa.Words.{micro_of}
+use Rattle.microcode.specs.declared.isa.operation.Operation.{Operation}
+use Rattle.microcode.specs.declared.isa.operation.Operation.TheVariants.{Stmra, Stmwd, Wait, Stbc, Hltb, Hltu}
 use Rattle.std.proofs.Math.ListN.{length-set}
 use Rattle.jop_core.specs.State.{MachineState}
 use Rattle.jop_core.specs.Operations.{pushed, stored, operated}
@@ -17,7 +17,7 @@ use Rattle.micro_flow.specs.declared.CostParams.{CostParams}
 use Rattle.micro_flow.specs.Walk.{TimeKind, Waits, Reads, Writes, Halts, Other, kind_of, Walker, onward, timed, stops}
 use Rattle.micro_sketch.specs.Sketch.{Sketch, apush, apop, need, astm, aplain, lead, opd_byte}
 use Rattle.micro_sketch.specs.Stands.{Env, Shaped, Does, Goes, Reaches, PortFits, conc, tick, env_after, env_kind, constants}
-use Rattle.microcode_rom.specs.declared.TheConstants.{WORDS, CONSTANTS}
+use Rattle.microcode.specs.declared.TheConstants.{WORDS, CONSTANTS}
 use Rattle.micro_sketch.proofs.OnChip.{fetched, put_in, push_sim, pop_sim, read_low, read_constant, write_low}
 use Rattle.micro_sketch.proofs.PlainSim.{plain_sim}
 use Rattle.micro_sketch.proofs.Counts.{counts_plain, busy_after, halt_after}

@@ -3,14 +3,14 @@ use Rattle.std.proofs.Common.{◌^◌, None, ◌≡◌, ℕ, ◌+◌, ◌-◌, �
 use Rattle.std.proofs.lemmas.Bool.{and_parts}
 use Rattle.std.proofs.Math.ListN.{length-set}
 use Rattle.std.proofs.Math.Nat.{mod-eq_of_lt}
-use Rattle.micro_isa.specs.declared.operation.Operation.{Operation}
-use Rattle.micro_isa.specs.declared.operation.Operation.TheVariants.{Nop, Pop, Dup, Add, Sub, And, Or, Xor, Shl, Shr, Ushr, Mul, Slt, Sltu, Ldo, Ldo8, Ldo16, Ldl, Stl, Ld0, Ld1, Ld2, Ld3, St0, St1, St2, St3, Ldvp, Stvp, Ldsp, Stsp, Ldjpc, Stjpc, Star, Ldmi, Stmi, Stmra, Stmwa, Stmwd, Wait, Ldmrd, Stbc, Jbr, Jbg, Ldin, Stout, Hltb, Hltu}
+use Rattle.microcode.specs.declared.isa.operation.Operation.{Operation}
+use Rattle.microcode.specs.declared.isa.operation.Operation.TheVariants.{Nop, Pop, Dup, Add, Sub, And, Or, Xor, Shl, Shr, Ushr, Mul, Slt, Sltu, Ldo, Ldo8, Ldo16, Ldl, Stl, Ld0, Ld1, Ld2, Ld3, St0, St1, St2, St3, Ldvp, Stvp, Ldsp, Stsp, Ldjpc, Stjpc, Star, Ldmi, Stmi, Stmra, Stmwa, Stmwd, Wait, Ldmrd, Stbc, Jbr, Jbg, Ldin, Stout, Hltb, Hltu}
 use Rattle.jop_core.specs.State.{MachineState}
 use Rattle.jop_core.specs.Operations.{pushed, popped, stored, operated, combined, holds, branch_target, sign_extended8, sign_extended16, input_word}
 use Rattle.jop_core.specs.Cycle.{is_ldin}
 use Rattle.jop_core.specs.declared.halt.Halt.{Halt}
 use Rattle.jop_core.specs.declared.halt.Halt.TheVariants.{Ended, Uncaught}
-use Rattle.memory_timing.specs.Port.{read_started, write_started}
+use Rattle.machine_memory.specs.Timing.Port.{read_started, write_started}
 use Rattle.std.specs.declared.option.Option.{Option}
 use Rattle.jop_core.specs.Scene.{given, first_of}
 use Rattle.micro_sketch.specs.Sketch.{Sketch, apush, apop, inside, aload, astore, abinary, aplain, atarget, off_entry, off_raise, same_bool, ahalt}

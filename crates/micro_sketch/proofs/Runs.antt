@@ -1,7 +1,7 @@
 -- Runs put together.
 use Rattle.std.proofs.Common.{◌≡◌, ℕ, suc, zero, ◌+◌, ◌<◌, Bool, true, false, List, [], ◌∷◌, ◌++◌, get_or, if◌then◌else◌, refl, sym, ap, ◌∙◌, subst, arith, zero-add}
 use Rattle.std.proofs.lemmas.Bool.{and_parts}
-use Rattle.micro_isa.specs.Words.{micro_of}
+use Rattle.microcode.specs.Isa.Words.{micro_of}
 use Rattle.jop_core.specs.Cycle.{at_boundary, is_running}
 use Rattle.jop_core.specs.declared.halt.Halt.{Halt}
 use Rattle.jop_core.specs.declared.halt.Halt.TheVariants.{Running, Ended, Uncaught}
@@ -11,7 +11,7 @@ use Rattle.micro_flow.specs.Walk.{Walker, walk}
 use Rattle.micro_sketch.specs.Sketch.{Sketch, astep, exec, is_guessed, first_or, rest_if, goes, going}
 use Rattle.micro_sketch.specs.Laws.{RunsFor}
 use Rattle.micro_sketch.specs.Stands.{Env, Shaped, Goes, Reaches, Tells, Walked, PortFits, scene}
-use Rattle.microcode_rom.specs.declared.TheConstants.{WORDS}
+use Rattle.microcode.specs.declared.TheConstants.{WORDS}
 use Rattle.micro_sketch.proofs.Counts.{was_exec, was_step}
 use Rattle.micro_sketch.proofs.Boundaries.{off_is}
 use Rattle.micro_sketch.proofs.Words.{step_sim}

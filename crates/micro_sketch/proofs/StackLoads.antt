@@ -3,10 +3,10 @@ use Rattle.std.proofs.Common.{◌≡◌, ◌-◌, ◌%◌, ◌^◌, ℕ, ◌<◌
 use Rattle.std.proofs.Math.Nat.{mod-eq_of_lt}
 use Rattle.std.proofs.Math.Seq.{get_or-append_right}
 use mathlib.Core.List.{reverse_aux}
-use Rattle.micro_isa.specs.declared.Body.TheVariants.{Plain}
-use Rattle.micro_isa.specs.declared.Micro.{Micro}
-use Rattle.micro_isa.specs.declared.operation.Operation.TheVariants.{Ldmi}
-use Rattle.micro_isa.specs.Operations.{operation_of}
+use Rattle.microcode.specs.declared.isa.Body.TheVariants.{Plain}
+use Rattle.microcode.specs.declared.isa.Micro.{Micro}
+use Rattle.microcode.specs.declared.isa.operation.Operation.TheVariants.{Ldmi}
+use Rattle.microcode.specs.Isa.Operations.{operation_of}
 use Rattle.micro_flow.specs.Walk.{kind_of, passed, onward, timed, stops}
 use Rattle.jop_core.specs.Operations.{pushed, operated}
 use Rattle.jop_core.specs.Cycle.{is_wait, is_ldin, is_stout}

@@ -6,7 +6,7 @@ use Rattle.jop_core.specs.declared.halt.Halt.TheVariants.{Running}
 use Rattle.jop_core.specs.Scene.{Scene, next_scene, run, given, left_over}
 use Rattle.micro_sketch.specs.Sketch.{Sketch}
 use Rattle.micro_sketch.specs.Stands.{Env, conc, scene, tick}
-use Rattle.microcode_rom.specs.declared.TheConstants.{RAISE}
+use Rattle.microcode.specs.declared.TheConstants.{RAISE}
 use Rattle.micro_sketch.proofs.Boundaries.{around}
 
 -- a load

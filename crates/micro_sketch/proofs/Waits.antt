@@ -1,18 +1,18 @@
 -- Waits for the memory.
 use Rattle.std.proofs.Common.{◌^◌, ◌≡◌, ℕ, suc, zero, pred, ◌+◌, ◌-◌, ◌%◌, ◌<◌, ◌≤◌, ◌&&◌, Bool, true, false, [], ◌∷◌, ◌++◌, get_or, nat_lt, if◌then◌else◌, refl, sym, ap, ◌∙◌, subst, arith, Some, lt-ltb}
 use Rattle.std.proofs.lemmas.Bool.{and_parts}
-use Rattle.micro_isa.specs.declared.Body.TheVariants.{Plain}
-use Rattle.micro_isa.specs.declared.Micro.{Micro}
-use Rattle.micro_isa.specs.Operations.{operation_of}
-use Rattle.micro_isa.specs.Words.{micro_of}
-use Rattle.micro_isa.specs.declared.operation.Operation.TheVariants.{Wait}
+use Rattle.microcode.specs.declared.isa.Body.TheVariants.{Plain}
+use Rattle.microcode.specs.declared.isa.Micro.{Micro}
+use Rattle.microcode.specs.Isa.Operations.{operation_of}
+use Rattle.microcode.specs.Isa.Words.{micro_of}
+use Rattle.microcode.specs.declared.isa.operation.Operation.TheVariants.{Wait}
 use Rattle.jop_core.specs.Operations.{operated}
 use Rattle.jop_core.specs.Cycle.{performed, with_nxt, with_opd, waits, is_wait, at_boundary, body_asks, is_ldin, puts, is_stout}
 use Rattle.jop_core.specs.Scene.{Scene, next_scene, run, given, left_over}
 use Rattle.micro_flow.specs.Walk.{Waits, kind_of, Walker, onward, timed, stops}
 use Rattle.micro_sketch.specs.Sketch.{Sketch, aplain, lead, opd_byte, off_entry, off_raise}
 use Rattle.micro_sketch.specs.Stands.{Env, Shaped, Goes, Reaches, Tells, PortFits, conc, scene, tick}
-use Rattle.microcode_rom.specs.declared.TheConstants.{WORDS}
+use Rattle.microcode.specs.declared.TheConstants.{WORDS}
 use Rattle.micro_sketch.proofs.Boundaries.{around, flags_end, flags_fine, flags_keep, flags_same, flags_shape, quiet_here}
 use Rattle.micro_sketch.proofs.Cycles.{lead_runs, next_is, onward_clock, opd_halt, opd_left, opd_mpc, scene_runs, stalls_same, step_at}
 

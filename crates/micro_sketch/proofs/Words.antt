@@ -1,18 +1,18 @@
 -- Any microinstruction.
 use Rattle.std.proofs.Common.{◌≡◌, ℕ, ◌+◌, ◌-◌, ◌||◌, ◌==◌, Bool, true, List, get_or, nat_lt, refl, sym, ap, ◌∙◌, subst, Option, Some, None}
 use Rattle.std.proofs.lemmas.Bool.{and_parts}
-use Rattle.micro_isa.specs.declared.Body.{Body}
-use Rattle.micro_isa.specs.declared.Body.TheVariants.{Plain, Stm, Ldm, Ldi, Bz, Bnz, Jmp}
-use Rattle.micro_isa.specs.declared.Micro.{Micro}
-use Rattle.micro_isa.specs.Operations.{operation_of}
-use Rattle.micro_isa.specs.Words.{micro_of}
+use Rattle.microcode.specs.declared.isa.Body.{Body}
+use Rattle.microcode.specs.declared.isa.Body.TheVariants.{Plain, Stm, Ldm, Ldi, Bz, Bnz, Jmp}
+use Rattle.microcode.specs.declared.isa.Micro.{Micro}
+use Rattle.microcode.specs.Isa.Operations.{operation_of}
+use Rattle.microcode.specs.Isa.Words.{micro_of}
 use Rattle.jop_core.specs.State.{MachineState}
 use Rattle.jop_core.specs.Operations.{popped, stored}
 use Rattle.jop_core.specs.Cycle.{branched}
 use Rattle.micro_flow.specs.Walk.{passed, onward}
 use Rattle.micro_sketch.specs.Sketch.{Sketch, apush, apop, need, astm, aplain, astep, lead, opd_byte, same_bool}
 use Rattle.micro_sketch.specs.Stands.{Env, Shaped, Goes, Reaches, PortFits, conc, tick}
-use Rattle.microcode_rom.specs.declared.TheConstants.{WORDS, CONSTANTS}
+use Rattle.microcode.specs.declared.TheConstants.{WORDS, CONSTANTS}
 use Rattle.micro_sketch.proofs.OnChip.{fetched, pop_sim}
 use Rattle.micro_sketch.proofs.PlainSim.{same_is}
 use Rattle.micro_sketch.proofs.Counts.{keeps_push, keeps_pop, was_jumped}

@@ -1,7 +1,7 @@
 -- Rows that go on in another frame: a new VP, and where they end.
 use Rattle.std.specs.Prelude.{ℕ, ◌≡◌, ◌≢◌, ◌<◌, Bool, true}
-use Rattle.microcode_rom.specs.declared.TheConstants.{RAISE}
-use Rattle.micro_isa.specs.declared.operation.Operation.TheVariants.{Stvp}
+use Rattle.microcode.specs.declared.TheConstants.{RAISE}
+use Rattle.microcode.specs.declared.isa.operation.Operation.TheVariants.{Stvp}
 use Rattle.micro_flow.specs.declared.CostParams.{CostParams}
 use Rattle.jop_core.specs.declared.halt.Halt.TheVariants.{Running}
 use Rattle.jop_core.specs.State.{MachineState}

@@ -1,12 +1,12 @@
 -- Where the moving part of the stack begins and ends among the on-chip words.
 use Rattle.std.specs.Prelude.{ℕ, ◌≡◌, Bool, List, ◌++◌, Some, slice_index}
 use mathlib.Core.List.{reverse_aux}
-use Rattle.micro_isa.specs.declared.Body.TheVariants.{Plain}
-use Rattle.micro_isa.specs.declared.Micro.{Micro}
-use Rattle.micro_isa.specs.declared.operation.Operation.{Operation}
-use Rattle.micro_isa.specs.Operations.{operation_of}
-use Rattle.micro_isa.specs.Words.{micro_of}
-use Rattle.microcode_rom.specs.declared.TheConstants.{WORDS}
+use Rattle.microcode.specs.declared.isa.Body.TheVariants.{Plain}
+use Rattle.microcode.specs.declared.isa.Micro.{Micro}
+use Rattle.microcode.specs.declared.isa.operation.Operation.{Operation}
+use Rattle.microcode.specs.Isa.Operations.{operation_of}
+use Rattle.microcode.specs.Isa.Words.{micro_of}
+use Rattle.microcode.specs.declared.TheConstants.{WORDS}
 use Rattle.micro_sketch.specs.Sketch.{Sketch, apop}
 
 -- the on-chip words from place 64 on

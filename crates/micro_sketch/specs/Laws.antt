@@ -2,8 +2,8 @@
 use Rattle.std.specs.Prelude.{ℕ, ◌≡◌, suc, ◌+◌, ◌^◌, ◌<◌, ◌≤◌, true, false, Bool, List, [], ◌++◌, length, slice_index}
 use Rattle.std.specs.declared.option.Option.{Option}
 use mathlib.Core.List.{reverse_aux}
-use Rattle.micro_isa.specs.declared.operation.Operation.TheVariants.{Ldmi, Stsp}
-use Rattle.microcode_rom.specs.declared.TheConstants.{ENTRIES, RAISE}
+use Rattle.microcode.specs.declared.isa.operation.Operation.TheVariants.{Ldmi, Stsp}
+use Rattle.microcode.specs.declared.TheConstants.{ENTRIES, RAISE}
 use Rattle.micro_flow.specs.declared.CostParams.{CostParams}
 use Rattle.micro_flow.specs.Walk.{turns_at, IsGreatestTime, IsCost, IsRaiseCost}
 use Rattle.jop_core.specs.State.{MachineState}

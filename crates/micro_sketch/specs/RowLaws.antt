@@ -1,7 +1,7 @@
 -- Laws of rows: from what some words make of an opcode's entry to what a step of the machine does.
 use Rattle.std.specs.Prelude.{ℕ, ◌≡◌, ◌≢◌, ◌^◌, ◌<◌, true, List, [], ◌++◌, length, reverse}
 use Rattle.std.specs.declared.option.Option.{Option}
-use Rattle.microcode_rom.specs.declared.TheConstants.{RAISE}
+use Rattle.microcode.specs.declared.TheConstants.{RAISE}
 use Rattle.micro_flow.specs.declared.CostParams.{CostParams}
 use Rattle.jop_core.specs.declared.halt.Halt.TheVariants.{Running}
 use Rattle.jop_core.specs.State.{MachineState}

@@ -3,7 +3,7 @@
 use Rattle.std.specs.Prelude.{ℕ, zero, suc, ◌≡◌, ◌+◌, ◌%◌, ◌^◌, ◌≤◌, Bool, true, false, List, [], ◌∷◌, drop, slice_set}
 use Rattle.std.specs.declared.option.Option.{Option}
 use Rattle.std.proofs.Common.{sym, ap, ◌∙◌, subst}
-use Rattle.microcode_rom.specs.declared.TheConstants.{RAISE}
+use Rattle.microcode.specs.declared.TheConstants.{RAISE}
 use Rattle.method_cache.specs.Contents.{Cache}
 use Rattle.micro_flow.specs.declared.CostParams.{CostParams}
 use Rattle.micro_flow.specs.Walk.{IsCost}

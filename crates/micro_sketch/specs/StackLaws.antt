@@ -1,6 +1,6 @@
 -- The load of a word of the stack by its place, also of one past SP.
 use Rattle.std.specs.Prelude.{ℕ, ◌≡◌, ◌-◌, ◌<◌, ◌≤◌, Bool, true, slice_index}
-use Rattle.micro_isa.specs.declared.operation.Operation.TheVariants.{Ldmi}
+use Rattle.microcode.specs.declared.isa.operation.Operation.TheVariants.{Ldmi}
 use Rattle.micro_sketch.specs.Sketch.{Sketch, apush, lead, opd_byte}
 use Rattle.micro_sketch.specs.Stands.{Env, Shaped, PortFits, Goes, Reaches}
 use Rattle.micro_sketch.specs.Frames.{whole, RunsNext}

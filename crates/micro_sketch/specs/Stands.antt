@@ -1,9 +1,9 @@
 -- What machine a sketch stands for.
 use Rattle.std.specs.Prelude.{ℕ, ◌≡◌, suc, ◌+◌, ◌-◌, ◌*◌, ◌%◌, ◌<◌, Bool, true, false, List, ◌++◌, length}
 use mathlib.Core.List.{reverse_aux}
-use Rattle.microcode_rom.specs.declared.TheConstants.{CONSTANTS}
-use Rattle.micro_isa.specs.declared.operation.Operation.{Operation}
-use Rattle.memory_timing.specs.Port.{Port}
+use Rattle.microcode.specs.declared.TheConstants.{CONSTANTS}
+use Rattle.microcode.specs.declared.isa.operation.Operation.{Operation}
+use Rattle.machine_memory.specs.Timing.Port.{Port}
 use Rattle.micro_flow.specs.declared.CostParams.{CostParams}
 use Rattle.micro_flow.specs.Walk.{TimeKind, Reads, Writes, kind_of, Walker, walk}
 use Rattle.jop_core.specs.declared.halt.Halt.TheVariants.{Running}

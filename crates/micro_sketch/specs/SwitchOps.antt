@@ -1,6 +1,6 @@
 -- Switches (JVM Specification SE 8, 6.5 tableswitch and lookupswitch): the operands begin at the next multiple of 4 from the code's start, each four bytes.
 use Rattle.std.specs.Prelude.{ℕ, ◌+◌, ◌-◌, ◌*◌, ◌/◌, ◌%◌, ◌^◌, ◌<◌, ◌≤◌, ◌==◌, ◌||◌, zero, suc, ◌∷◌, if◌then◌else◌}
-use Rattle.microcode_rom.specs.declared.addresses.TheConstants.{LOOKUP_HIT}
+use Rattle.microcode.specs.declared.addresses.TheConstants.{LOOKUP_HIT}
 use Rattle.jop_core.specs.Operations.{signed_lt}
 use Rattle.micro_sketch.specs.Sketch.{Sketch}
 use Rattle.micro_sketch.specs.Row.{Effect, unchanged}

@@ -6,7 +6,7 @@ ghost use Rattle.micro_sketch.specs.Ends.{EndsSoon};
 ghost use Rattle.micro_sketch.specs.Step.{StandsAs, Went};
 
 use jop_core::{DeviceFault, Devices, Halt, Machine};
-use microcode_rom::RAISE;
+use microcode::RAISE;
 
 /// Where the machine stands after a step.
 #[derive(Clone, Copy, Debug, PartialEq, Eq)]

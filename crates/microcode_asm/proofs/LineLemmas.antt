@@ -4,7 +4,7 @@ use Rattle.std.specs.Prelude.{is_some}
 use Rattle.std.specs.Option.{option_or}
 use Rattle.std.specs.List.{list_any, flat_map}
 use Rattle.std.proofs.lemmas.List.{length-append}
-use Rattle.micro_isa.specs.declared.Turns.{Turns}
+use Rattle.microcode.specs.declared.isa.Turns.{Turns}
 use Rattle.microcode_asm.specs.Statements.{Statement, nothing, word, branch, entry, raise, constant, turns, size_of, Line}
 use Rattle.microcode_asm.specs.Programs.{LabelPlaces, address, word_count, turns_behind, turns_after, is_constant}
 use Rattle.microcode_asm.specs.Roms.{words_of, named_from, value_or, constant_in, turns_here, turns_from}

@@ -1,7 +1,7 @@
 -- What was read of a line means.
 use Rattle.std.specs.Prelude.{ℕ, ◌<◌, map}
-use Rattle.micro_isa.specs.declared.Body.{Body}
-use Rattle.micro_isa.specs.declared.Body.TheVariants.{Plain, Stm, Ldm, Ldi}
+use Rattle.microcode.specs.declared.isa.Body.{Body}
+use Rattle.microcode.specs.declared.isa.Body.TheVariants.{Plain, Stm, Ldm, Ldi}
 use Rattle.microcode_asm.specs.declared.statement.Access.{Access}
 use Rattle.microcode_asm.specs.declared.statement.Access.TheVariants.{Store, Load, Push}
 use Rattle.microcode_asm.specs.declared.statement.Statement.{Statement as Read}

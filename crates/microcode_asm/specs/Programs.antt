@@ -4,7 +4,7 @@ use Rattle.std.specs.Prelude.{Some, None, is_none, option_map}
 use Rattle.std.specs.List.{list_any, flat_map}
 use Rattle.std.specs.Map.{lookup}
 use Rattle.ascii_text.specs.Line.{lines_of}
-use Rattle.micro_isa.specs.declared.Turns.{Turns}
+use Rattle.microcode.specs.declared.isa.Turns.{Turns}
 use Rattle.microcode_asm.specs.declared.AsmKind.{AsmKind}
 use Rattle.microcode_asm.specs.declared.AsmKind.TheVariants.{Form, NoLabel, LabelTwice, EntryTwice, ConstTwice, NoTurns}
 use Rattle.microcode_asm.specs.Parts.{is}

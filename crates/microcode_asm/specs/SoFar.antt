@@ -5,8 +5,8 @@ use Rattle.std.specs.List.{flat_map}
 use Rattle.std.specs.Cmp.Lexicographic.{pointwise}
 use Rattle.std.specs.declared.alloc.Global.{Global}
 use Rattle.indexmap.specs.IndexMap.{IndexMap, get_by}
-use Rattle.micro_isa.specs.declared.Turns.{Turns}
-use Rattle.micro_isa.specs.Words.{word_of}
+use Rattle.microcode.specs.declared.isa.Turns.{Turns}
+use Rattle.microcode.specs.Isa.Words.{word_of}
 use Rattle.microcode_asm.specs.declared.statement.Branch.{Branch}
 use Rattle.microcode_asm.specs.Statements.{Statement, nothing, word, branch, entry, raise, constant, turns, Line}
 use Rattle.microcode_asm.specs.declared.AsmKind.{AsmKind}

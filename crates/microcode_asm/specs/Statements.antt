@@ -2,11 +2,11 @@
 use Rattle.std.specs.Prelude.{ℕ, ◌-◌, ◌^◌, true, false, ◌&&◌, ◌==◌, if◌then◌else◌, List, [], ◌∷◌, Option, Some, None, codes, option_and_then, option_map}
 use Rattle.std.specs.Prelude.{position}
 use Rattle.std.specs.List.{slice_split}
-use Rattle.micro_isa.specs.declared.Body.{Body}
-use Rattle.micro_isa.specs.declared.Body.TheVariants.{Plain, Stm, Ldm, Ldi}
-use Rattle.micro_isa.specs.Words.{word_of}
-use Rattle.micro_isa.specs.declared.Turns.{Turns}
-use Rattle.micro_isa.specs.declared.Turns.TheVariants.{Count, PerPair, PerEntry}
+use Rattle.microcode.specs.declared.isa.Body.{Body}
+use Rattle.microcode.specs.declared.isa.Body.TheVariants.{Plain, Stm, Ldm, Ldi}
+use Rattle.microcode.specs.Isa.Words.{word_of}
+use Rattle.microcode.specs.declared.isa.Turns.{Turns}
+use Rattle.microcode.specs.declared.isa.Turns.TheVariants.{Count, PerPair, PerEntry}
 use Rattle.microcode_asm.specs.declared.statement.Branch.{Branch}
 use Rattle.microcode_asm.specs.declared.statement.Branch.TheVariants.{IfZero, IfNotZero, Always}
 use Rattle.microcode_asm.specs.Parts.{is, is_name, number_up_to, constant_value, labels_of, behind_labels, parts_of}

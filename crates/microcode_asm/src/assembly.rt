@@ -2,7 +2,7 @@
 ghost use Rattle.std.specs.Prelude.{◌≡◌, ◌<◌, ℕ, [], ◌∷◌, ◌++◌, Some, None, true, false, not, IfOk, OnOk, IfNone, length, map, replicate, slice_index_or};
 ghost use Rattle.std.specs.Prelude.{is_some};
 ghost use Rattle.std.specs.List.{list_any};
-ghost use Rattle.micro_isa.specs.Words.{HasRange as IsMicro};
+ghost use Rattle.microcode.specs.Isa.Words.{HasRange as IsMicro};
 ghost use Rattle.microcode_asm.specs.Parts.{is};
 ghost use Rattle.microcode_asm.specs.Statements.{line_of};
 ghost use Rattle.microcode_asm.specs.Meaning.{IsInRange, line_meaning, meaning_of};
@@ -19,7 +19,7 @@ use crate::state::Assembly;
 use crate::statement::{Branch, Statement};
 use base::NoMemory;
 use indexmap::IndexSet;
-use micro_isa::{Body, Micro, Turns, encode};
+use microcode::isa::{Body, Micro, Turns, encode};
 use std::alloc::Global;
 
 impl Assembly {

@@ -29,7 +29,7 @@ use ascii_text::lines;
 use base::{Items, NoMemory};
 use labels::{Labels, read_labels};
 pub use listing::listing_of;
-use micro_isa::Turns;
+use microcode::isa::Turns;
 use state::Assembly;
 use std::alloc::Global;
 use thiserror::Error;

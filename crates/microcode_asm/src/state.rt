@@ -2,7 +2,7 @@
 ghost use Rattle.std.specs.Prelude.{◌≡◌, length};
 
 use indexmap::IndexSet;
-use micro_isa::Turns;
+use microcode::isa::Turns;
 
 /// The words of the lines so far, and what their directives gave.
 #[derive(Drop)]

@@ -6,7 +6,7 @@ ghost use Rattle.microcode_asm.specs.Statements as said;
 ghost use Rattle.microcode_asm.specs.Meaning.{meaning_of, body_of, IsInRange, TakesFlags};
 
 use crate::part::{constant_value, is, is_name, number_up_to};
-use micro_isa::{Body, Micro, Turns, encode};
+use microcode::isa::{Body, Micro, Turns, encode};
 
 /// When a branch is taken.
 #[derive(Clone, Copy)]

@@ -6,14 +6,14 @@ use Rattle.std.specs.Option.{option_map}
 use Rattle.std.proofs.lemmas.Bool.{and_parts, ltb-true}
 use Rattle.ascii_text.specs.Line.{with_line_feeds}
 use Rattle.opcodes.specs.Row.{row_of}
-use Rattle.micro_isa.specs.declared.Body.{Body}
-use Rattle.micro_isa.specs.declared.Body.TheVariants.{Plain, Stm, Ldm, Ldi, Bz, Bnz, Jmp}
-use Rattle.micro_isa.specs.declared.Micro.{Micro}
-use Rattle.micro_isa.specs.declared.Turns.{Turns}
-use Rattle.micro_isa.specs.declared.Turns.TheVariants.{Count, PerPair, PerEntry}
-use Rattle.micro_isa.specs.Words.{micro_of}
-use Rattle.microcode_rom.specs.Tables.{turns_in}
-use Rattle.microcode_rom.specs.declared.TheConstants.{CONSTANTS, ENTRIES, RAISE, TURNS, WORDS}
+use Rattle.microcode.specs.declared.isa.Body.{Body}
+use Rattle.microcode.specs.declared.isa.Body.TheVariants.{Plain, Stm, Ldm, Ldi, Bz, Bnz, Jmp}
+use Rattle.microcode.specs.declared.isa.Micro.{Micro}
+use Rattle.microcode.specs.declared.isa.Turns.{Turns}
+use Rattle.microcode.specs.declared.isa.Turns.TheVariants.{Count, PerPair, PerEntry}
+use Rattle.microcode.specs.Isa.Words.{micro_of}
+use Rattle.microcode.specs.Tables.{turns_in}
+use Rattle.microcode.specs.declared.TheConstants.{CONSTANTS, ENTRIES, RAISE, TURNS, WORDS}
 use Rattle.microcode_listing.specs.Names.{operation_text, row_text}
 use Rattle.microcode_listing.specs.Listing.{numbered, with_number, constant_text, entry_text, raise_text, opcodes_text, head_text, turns_text, target_text, body_text, flag_text, micro_text, word_text, listing_text}
 use Rattle.microcode_listing.proofs.Digits.{digits, digits_are}

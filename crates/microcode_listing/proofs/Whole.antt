@@ -4,7 +4,7 @@ use Rattle.std.specs.Prelude.{◌==◌, if◌then◌else◌}
 use Rattle.std.specs.List.{list_all, zip}
 use Rattle.ascii_text.specs.Line.{lines_of}
 use Rattle.opcodes.specs.Row.{row_of}
-use Rattle.microcode_rom.specs.declared.TheConstants.{CONSTANTS, ENTRIES, RAISE, ROWS, TURNS, WORDS}
+use Rattle.microcode.specs.declared.TheConstants.{CONSTANTS, ENTRIES, RAISE, ROWS, TURNS, WORDS}
 use Rattle.microcode_asm.specs.Statements.{line_of, operation_names}
 use Rattle.microcode_asm.specs.Programs.{LabelPlaces, labels_from, places_in, places_of}
 use Rattle.microcode_asm.specs.SoFar.{Kept, IsRomOf}

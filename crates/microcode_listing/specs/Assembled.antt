@@ -1,5 +1,5 @@
 -- The text of the microcode is assembled to the ROM.
-use Rattle.microcode_rom.specs.declared.TheConstants.{CONSTANTS, ENTRIES, RAISE, TURNS, WORDS}
+use Rattle.microcode.specs.declared.TheConstants.{CONSTANTS, ENTRIES, RAISE, TURNS, WORDS}
 use Rattle.microcode_asm.specs.declared.Rom.{Rom}
 use Rattle.microcode_asm.specs.Roms.{IsAssembled}
 use Rattle.microcode_listing.specs.Listing.{listing_text}

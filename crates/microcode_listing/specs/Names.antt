@@ -1,6 +1,6 @@
 -- The names of the operations by their codes, and of the rows in the order of their addresses.
 use Rattle.std.specs.Prelude.{ℕ, ◌==◌, List, [], ◌∷◌, codes, Option, slice_get, slice_index_or, position, unwrap_or}
-use Rattle.microcode_rom.specs.declared.TheConstants.{ROWS}
+use Rattle.microcode.specs.declared.TheConstants.{ROWS}
 
 abbrev pub operation_names : List (List ℕ)
 operation_names =

@@ -1,4 +1,4 @@
-//! The text of the microcode: what `microcode_asm` assembles to the words, entries, constants and turns of `microcode_rom`.
+//! The text of the microcode: what `microcode_asm` assembles to the words, entries, constants and turns of `microcode`.
 //!
 //! The constants that aren't 0 come first, and then the words. A row begins with its label and, as a comment, its address;
 //! then come the opcodes that begin there, each with its name as a comment.
@@ -8,7 +8,7 @@ ghost use Rattle.std.specs.Prelude.{◌≡◌, ◌++◌, ◌≤◌, length, Some
 ghost use Rattle.microcode_listing.specs.Listing.{numbered, with_number, constant_text, entry_text, raise_text, opcodes_text, head_text, turns_text};
 ghost use Rattle.microcode_listing.specs.Listing.{target_text, body_text, flag_text, micro_text, word_text, listing_text};
 ghost use Rattle.microcode_listing.specs.Names.{row_text};
-ghost use Rattle.micro_isa.specs.Words.{micro_of};
+ghost use Rattle.microcode.specs.Isa.Words.{micro_of};
 
 mod laws;
 mod names;
@@ -16,8 +16,8 @@ mod names;
 use ascii_text::put_u64;
 use base::NoMemory;
 pub use laws::the_listing_is_assembled;
-use micro_isa::{Body, Micro, Turns, decode};
-use microcode_rom::{CONSTANTS, ENTRIES, RAISE, WORDS, turns};
+use microcode::isa::{Body, Micro, Turns, decode};
+use microcode::{CONSTANTS, ENTRIES, RAISE, WORDS, turns};
 use names::{operation_name, row_name};
 use std::alloc::Global;
 

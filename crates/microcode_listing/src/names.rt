@@ -3,7 +3,7 @@
 ghost use Rattle.std.specs.Prelude.{◌≡◌, ◌==◌, option_map, position};
 ghost use Rattle.microcode_listing.specs.Names.{operation_text, row_number, row_text};
 
-use microcode_rom::{ROWS, microcode};
+use microcode::{ROWS, microcode};
 
 /// The names of the operations, by their codes.
 #[rattlefmt::skip]

@@ -12,7 +12,7 @@ use Rattle.bytecode_model.specs.Program.{Program, Body, body_of}
 use Rattle.std.proofs.lemmas.List.{take_all}
 use Rattle.lists.proofs.Lemmas.{some_is}
 use Rattle.base.specs.Packed.{words_for}
-use Rattle.cache_regions.specs.Region.{AreDistinct, load_stall}
+use Rattle.method_cache.specs.Regions.Region.{AreDistinct, load_stall}
 use Rattle.method_flow.specs.Flow.{Coded, Flow, IsCodedOf, IsFlowOf, range_of}
 use Rattle.method_flow.specs.Regions.{load, loads, IsGreatestLoad}
 use Rattle.node_costs.specs.Costs.{code_load, method_load}

@@ -1,13 +1,13 @@
 -- What the nodes of a method cost by themselves, by their numbers, and what it takes to load methods.
 use Rattle.std.specs.Prelude.{◌≡◌, ℕ, ◌+◌, ◌*◌, ◌<◌, ◌%◌, ◌/◌, ◌==◌, if◌then◌else◌, List, length, slice_index, slice_get, Option, Some, None, Ok}
 use Rattle.base.specs.Packed.{words_for}
-use Rattle.cache_regions.specs.Region.{load_stall}
+use Rattle.method_cache.specs.Regions.Region.{load_stall}
 use Rattle.opcodes.specs.declared.instruction.Instr.{Instr}
 use Rattle.opcodes.specs.Bytes.{u1}
 use Rattle.opcodes.specs.Instruction.{decoded}
 use Rattle.opcodes.specs.Start.{IsStart}
 use Rattle.micro_flow.specs.Walk.{IsCost}
-use Rattle.loop_bounds.specs.Bounds.{LoopBound, bound_in}
+use Rattle.bound_texts.specs.Loops.Bounds.{LoopBound, bound_in}
 use Rattle.bytecode_model.specs.Lists.{onto}
 use Rattle.bytecode_model.specs.Program.{Program}
 use Rattle.method_flow.specs.declared.timing.Timing.{Timing}

@@ -3,7 +3,7 @@ ghost use Rattle.std.specs.Prelude.{◌≡◌, ◌<◌, length, map, IfOk};
 ghost use Rattle.node_costs.specs.Costs.{bounds_of, bound_of_node};
 
 use base::NoMemory;
-use loop_bounds::Bounds;
+use bound_texts::loops::Bounds;
 use method_flow::FlowProgram;
 use std::alloc::Global;
 

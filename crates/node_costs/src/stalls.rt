@@ -1,6 +1,6 @@
 //! What it takes to load methods into the method cache (JOP Reference Handbook, "Method Cache"), in cycles.
 ghost use Rattle.std.specs.Prelude.{◌≡◌, ◌≤◌, ◌<◌, ◌^◌, ℕ, All, length, sum_by};
-ghost use Rattle.cache_regions.specs.Region.{AreDistinct};
+ghost use Rattle.method_cache.specs.Regions.Region.{AreDistinct};
 ghost use Rattle.bytecode_model.specs.Program.{Program};
 ghost use Rattle.method_flow.specs.Flow.{IsCodedOf, IsFlowOf};
 ghost use Rattle.method_flow.specs.Regions.{load, loads, IsGreatestLoad};

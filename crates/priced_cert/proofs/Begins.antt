@@ -6,15 +6,15 @@ use Rattle.std.proofs.lemmas.List.{length-append, take-append-drop, take-map, ta
 use Rattle.std.proofs.lemmas.List.Elements.{All-nil}
 use Rattle.lists.specs.Lists.{onto}
 use Rattle.lists.proofs.Lemmas.{onto_some}
-use Rattle.bound_cert.specs.declared.lines.line.CertLine.TheVariants.{Version, Root, Bound}
-use Rattle.bound_cert.specs.declared.lines.line.SectionKind.TheVariants.{Alone}
-use Rattle.bound_cert.specs.declared.cert.CertSection.{CertSection}
-use Rattle.bound_cert.specs.CertLines.{line_text}
-use Rattle.bound_cert.specs.Certificate.{Certificate}
-use Rattle.bound_cert.specs.Texts.{said, lines_of, AreLinesOf, BeginOne}
-use Rattle.bound_cert.specs.Drafts as draft
-use Rattle.bound_cert.specs.Drafts.{Draft, never_with}
-use Rattle.bound_cert.proofs.Running.{run, run-append, run_on, run_said, said_back, run_draft, rest_to, goal_of, run_rest, goal_in_grammar}
+use Rattle.certificates.specs.declared.lines.line.CertLine.TheVariants.{Version, Root, Bound}
+use Rattle.certificates.specs.declared.lines.line.SectionKind.TheVariants.{Alone}
+use Rattle.certificates.specs.declared.cert.CertSection.{CertSection}
+use Rattle.certificates.specs.CertLines.{line_text}
+use Rattle.certificates.specs.Certificate.{Certificate}
+use Rattle.certificates.specs.Texts.{said, lines_of, AreLinesOf, BeginOne}
+use Rattle.certificates.specs.Drafts as draft
+use Rattle.certificates.specs.Drafts.{Draft, never_with}
+use Rattle.certificates.proofs.Running.{run, run-append, run_on, run_said, said_back, run_draft, rest_to, goal_of, run_rest, goal_in_grammar}
 use Rattle.priced_cert.specs.declared.prices.RootPrice.{RootPrice}
 use Rattle.priced_cert.specs.Prices.{ArePrices}
 use Rattle.priced_cert.specs.Certificate.{PricedCertificate, IsPricedInGrammar}

@@ -4,11 +4,11 @@ use Rattle.std.specs.Prelude.{All, flat_map}
 use Rattle.std.specs.Option.{option_to_list}
 use Rattle.std.specs.Fmt.{digits}
 use Rattle.std.proofs.lemmas.List.Elements.{All-head, All-tail}
-use Rattle.bound_cert.specs.declared.lines.line.SectionKind.TheVariants.{Alone}
-use Rattle.bound_cert.specs.declared.lines.line.CertLine.TheVariants.{Version, Root, Start, Bound}
-use Rattle.bound_cert.specs.declared.cert.CertSection.{CertSection}
-use Rattle.bound_cert.specs.CertLines.{line_text}
-use Rattle.bound_cert.specs.Texts.{section_said, lines_of}
+use Rattle.certificates.specs.declared.lines.line.SectionKind.TheVariants.{Alone}
+use Rattle.certificates.specs.declared.lines.line.CertLine.TheVariants.{Version, Root, Start, Bound}
+use Rattle.certificates.specs.declared.cert.CertSection.{CertSection}
+use Rattle.certificates.specs.CertLines.{line_text}
+use Rattle.certificates.specs.Texts.{section_said, lines_of}
 use Rattle.priced_cert.specs.declared.prices.Price.{Price}
 use Rattle.priced_cert.specs.declared.prices.RootPrice.{RootPrice}
 use Rattle.priced_cert.specs.declared.kind.LineKind.{LineKind}

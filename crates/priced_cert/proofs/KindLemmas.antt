@@ -3,13 +3,13 @@ use Rattle.std.proofs.Common.{◌≡◌, ◌≢◌, ℕ, Bool, true, false, List
 use Rattle.std.specs.Prelude.{codes, All, if◌then◌else◌, ◌==◌, ◌%◌}
 use Rattle.std.proofs.lemmas.List.Elements.{All-nil, All-cons, All-append}
 use Rattle.section_check.specs.Section.{CertifiedLoop}
-use Rattle.bound_cert.specs.declared.lines.line.SectionKind.{SectionKind}
-use Rattle.bound_cert.specs.declared.lines.line.SectionKind.TheVariants.{Inside, Alone, Loops}
-use Rattle.bound_cert.specs.declared.lines.line.CertLine.{CertLine}
-use Rattle.bound_cert.specs.declared.lines.line.CertLine.TheVariants.{Root, Start, Node, Loop, Bound}
-use Rattle.bound_cert.specs.Loop.{LoopSaid}
-use Rattle.bound_cert.specs.CertLines.{line_text}
-use Rattle.bound_cert.specs.Texts.{loop_said}
+use Rattle.certificates.specs.declared.lines.line.SectionKind.{SectionKind}
+use Rattle.certificates.specs.declared.lines.line.SectionKind.TheVariants.{Inside, Alone, Loops}
+use Rattle.certificates.specs.declared.lines.line.CertLine.{CertLine}
+use Rattle.certificates.specs.declared.lines.line.CertLine.TheVariants.{Root, Start, Node, Loop, Bound}
+use Rattle.certificates.specs.Loop.{LoopSaid}
+use Rattle.certificates.specs.CertLines.{line_text}
+use Rattle.certificates.specs.Texts.{loop_said}
 use Rattle.priced_cert.specs.declared.prices.Price.{Price}
 use Rattle.priced_cert.specs.declared.prices.RootPrice.{RootPrice}
 use Rattle.priced_cert.specs.declared.kind.LineKind.TheVariants.{OfPrice, OfSection, OfAlone, OfBound, Other}

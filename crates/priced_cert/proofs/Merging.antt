@@ -6,13 +6,13 @@ use Rattle.std.specs.Fmt.{digits}
 use Rattle.std.proofs.lemmas.List.{map-append}
 use Rattle.std.proofs.lemmas.List.Elements.{All-nil, All-cons, All-head, All-tail, All-push}
 use Rattle.lists.proofs.FirstLemmas.{flat_map-append}
-use Rattle.bound_cert.specs.declared.lines.line.SectionKind.TheVariants.{Alone}
-use Rattle.bound_cert.specs.declared.lines.line.CertLine.TheVariants.{Version, Root, Start, Node, Loop, Bound}
-use Rattle.bound_cert.specs.declared.cert.CertSection.{CertSection}
-use Rattle.bound_cert.specs.CertLines.{line_text, IsVersion}
-use Rattle.bound_cert.specs.Certificate.{Certificate}
-use Rattle.bound_cert.specs.Texts.{loop_said, section_said, lines_of, AreLinesOf}
-use Rattle.bound_cert.proofs.WordLemmas.{apart}
+use Rattle.certificates.specs.declared.lines.line.SectionKind.TheVariants.{Alone}
+use Rattle.certificates.specs.declared.lines.line.CertLine.TheVariants.{Version, Root, Start, Node, Loop, Bound}
+use Rattle.certificates.specs.declared.cert.CertSection.{CertSection}
+use Rattle.certificates.specs.CertLines.{line_text, IsVersion}
+use Rattle.certificates.specs.Certificate.{Certificate}
+use Rattle.certificates.specs.Texts.{loop_said, section_said, lines_of, AreLinesOf}
+use Rattle.certificates.proofs.WordLemmas.{apart}
 use Rattle.priced_cert.specs.declared.prices.Price.{Price}
 use Rattle.priced_cert.specs.declared.prices.RootPrice.{RootPrice}
 use Rattle.priced_cert.specs.declared.kind.LineKind.{LineKind}

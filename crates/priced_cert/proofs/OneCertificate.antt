@@ -1,13 +1,13 @@
 -- A text is of one certificate, and of one version.
 use Rattle.std.proofs.Common.{◌≡◌, ℕ, List, [], ◌∷◌, length, refl, sym, ◌∙◌, ap, ap₂, subst, arith, inl, inr}
 use Rattle.std.specs.Fmt.{digits}
-use Rattle.bound_cert.specs.declared.lines.line.CertLine.TheVariants.{Version}
-use Rattle.bound_cert.specs.declared.cert.CertSection.{CertSection}
-use Rattle.bound_cert.specs.CertLines.{line_text, IsVersion}
-use Rattle.bound_cert.specs.Certificate.{Certificate}
-use Rattle.bound_cert.specs.Texts.{lines_of}
-use Rattle.bound_cert.proofs.LinesRead.{one_certificate}
-use Rattle.bound_cert.proofs.WordLemmas.{apart}
+use Rattle.certificates.specs.declared.lines.line.CertLine.TheVariants.{Version}
+use Rattle.certificates.specs.declared.cert.CertSection.{CertSection}
+use Rattle.certificates.specs.CertLines.{line_text, IsVersion}
+use Rattle.certificates.specs.Certificate.{Certificate}
+use Rattle.certificates.specs.Texts.{lines_of}
+use Rattle.certificates.proofs.LinesRead.{one_certificate}
+use Rattle.certificates.proofs.WordLemmas.{apart}
 use Rattle.priced_cert.specs.declared.prices.Price.{Price}
 use Rattle.priced_cert.specs.declared.prices.RootPrice.{RootPrice}
 use Rattle.priced_cert.specs.Texts.{version_line, priced_lines}

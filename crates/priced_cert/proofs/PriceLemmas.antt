@@ -2,10 +2,10 @@
 use Rattle.std.proofs.Common.{◌≡◌, ℕ, ◌<◌, ◌^◌, ◌/◌, ◌%◌, List, [], ◌∷◌, ◌++◌, refl, ◌∙◌, ap, arith, Option, Some, None}
 use Rattle.std.specs.Prelude.{codes, decimal}
 use Rattle.std.proofs.lemmas.List.{append_cancel_left}
-use Rattle.bound_cert.specs.CertLines.{node_text}
-use Rattle.bound_cert.specs.Finding.{HasNoSpace, IsBehindPart}
-use Rattle.bound_cert.proofs.PartLemmas.{one_first_part}
-use Rattle.bound_cert.proofs.NumberLemmas.{decimal_no_space, one_number, one_node, node_no_space}
+use Rattle.certificates.specs.CertLines.{node_text}
+use Rattle.certificates.specs.Finding.{HasNoSpace, IsBehindPart}
+use Rattle.certificates.proofs.PartLemmas.{one_first_part}
+use Rattle.certificates.proofs.NumberLemmas.{decimal_no_space, one_number, one_node, node_no_space}
 use Rattle.priced_cert.specs.declared.prices.Price.{Price}
 use Rattle.priced_cert.specs.declared.prices.RootPrice.{RootPrice}
 use Rattle.priced_cert.specs.Prices.{IsHeader, IsHeaderOrNone, IsVisit, IsFee, IsPriceInRange, IsRootPriceInRange, visit_text, header_text, per_text, fee_text, root_price_text, price_text, root_price_line, price_line}

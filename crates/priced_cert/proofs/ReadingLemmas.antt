@@ -1,10 +1,10 @@
 -- Texts that say no price.
 use Rattle.std.proofs.Common.{◌≡◌, ◌≢◌, ℕ, ◌<◌, ◌^◌, List, [], ◌∷◌, ◌++◌, append-nil, sym, ◌∙◌, subst, arith, Option, Some, None}
 use Rattle.std.specs.Prelude.{decimal, MatchOption}
-use Rattle.bound_cert.specs.CertLines.{node_text}
-use Rattle.bound_cert.specs.Finding.{HasNoSpace}
-use Rattle.bound_cert.proofs.PartLemmas.{no_space_there}
-use Rattle.bound_cert.proofs.NumberLemmas.{decimal_no_space, node_no_space}
+use Rattle.certificates.specs.CertLines.{node_text}
+use Rattle.certificates.specs.Finding.{HasNoSpace}
+use Rattle.certificates.proofs.PartLemmas.{no_space_there}
+use Rattle.certificates.proofs.NumberLemmas.{decimal_no_space, node_no_space}
 use Rattle.priced_cert.specs.declared.prices.Price.{Price}
 use Rattle.priced_cert.specs.declared.prices.RootPrice.{RootPrice}
 use Rattle.priced_cert.specs.Prices.{IsNode, IsHeader, IsPriceValue, IsVisit, IsFee, IsPriceInRange, IsRootPriceInRange, StandsBefore, IsLess, IsBehind, IsBehindInRoot, last_in, visit_text, header_text, fee_text, root_price_text, price_text, root_price_line, price_line}

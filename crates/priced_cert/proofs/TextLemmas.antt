@@ -7,15 +7,15 @@ use Rattle.lists.specs.Tests.{and_left, and_right, not_true}
 use Rattle.std.proofs.lemmas.List.Elements.{All-nil, All-cons, All-head, All-tail, All-append, All-from_recursion}
 use Rattle.std.proofs.lemmas.List.Splits.{slice_split_at}
 use Rattle.ascii_text.specs.Line.{lines_of as text_lines, without_empty_last, with_line_feeds}
-use Rattle.bound_cert.specs.declared.lines.line.CertLine.{CertLine}
-use Rattle.bound_cert.specs.declared.lines.line.CertLine.TheVariants.{Root, Bound}
-use Rattle.bound_cert.specs.declared.cert.CertSection.{CertSection}
-use Rattle.bound_cert.specs.CertLines.{line_text, node_text, IsLineInRange}
-use Rattle.bound_cert.specs.Texts.{section_said}
-use Rattle.bound_cert.proofs.PartLemmas.{each_append, each_weaker}
-use Rattle.bound_cert.proofs.NumberLemmas.{IsDigit, digits_are}
-use Rattle.bound_cert.proofs.LineLemmas.{line_no_feed}
-use Rattle.bound_cert.proofs.Running.{said_in_range}
+use Rattle.certificates.specs.declared.lines.line.CertLine.{CertLine}
+use Rattle.certificates.specs.declared.lines.line.CertLine.TheVariants.{Root, Bound}
+use Rattle.certificates.specs.declared.cert.CertSection.{CertSection}
+use Rattle.certificates.specs.CertLines.{line_text, node_text, IsLineInRange}
+use Rattle.certificates.specs.Texts.{section_said}
+use Rattle.certificates.proofs.PartLemmas.{each_append, each_weaker}
+use Rattle.certificates.proofs.NumberLemmas.{IsDigit, digits_are}
+use Rattle.certificates.proofs.LineLemmas.{line_no_feed}
+use Rattle.certificates.proofs.Running.{said_in_range}
 use Rattle.priced_cert.specs.declared.prices.Price.{Price}
 use Rattle.priced_cert.specs.declared.prices.RootPrice.{RootPrice}
 use Rattle.priced_cert.specs.Prices.{IsNode, IsHeaderOrNone, IsPriceInRange, IsRootPriceInRange, ArePrices, visit_text, per_text, fee_text, root_price_text, price_text, price_line, root_price_line}

@@ -4,14 +4,14 @@ use Rattle.std.specs.Prelude.{All, codes, decimal, flat_map}
 use Rattle.std.specs.Iterator.{YieldsFirstRef}
 use Rattle.std.proofs.lemmas.List.Elements.{All-head, All-tail}
 use Rattle.lists.proofs.FirstLemmas.{flat_map-append}
-use Rattle.bound_cert.specs.declared.lines.line.SectionKind.TheVariants.{Alone}
-use Rattle.bound_cert.specs.declared.lines.line.CertLine.TheVariants.{Version, Root, Start, Bound}
-use Rattle.bound_cert.specs.declared.cert.CertSection.{CertSection}
-use Rattle.bound_cert.specs.CertLines.{line_text}
+use Rattle.certificates.specs.declared.lines.line.SectionKind.TheVariants.{Alone}
+use Rattle.certificates.specs.declared.lines.line.CertLine.TheVariants.{Version, Root, Start, Bound}
+use Rattle.certificates.specs.declared.cert.CertSection.{CertSection}
+use Rattle.certificates.specs.CertLines.{line_text}
 use Rattle.ascii_text.specs.Line.{lines_of as text_lines}
-use Rattle.bound_cert.specs.Certificate.{Certificate, IsInGrammar}
-use Rattle.bound_cert.specs.Texts.{text_of}
-use Rattle.bound_cert.proofs.Texts.{read_back}
+use Rattle.certificates.specs.Certificate.{Certificate, IsInGrammar}
+use Rattle.certificates.specs.Texts.{text_of}
+use Rattle.certificates.proofs.Texts.{read_back}
 use Rattle.priced_cert.specs.declared.prices.Price.{Price}
 use Rattle.priced_cert.specs.declared.prices.RootPrice.{RootPrice}
 use Rattle.priced_cert.specs.declared.kind.LineKind.{LineKind}

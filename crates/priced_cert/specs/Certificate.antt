@@ -1,7 +1,7 @@
 -- Certificates of version 3: as those of version 2, with prices of facts.
 use Rattle.std.specs.Prelude.{◌≡◌, ◌≢◌, List, length, All}
-use Rattle.bound_cert.specs.declared.lines.line.SectionKind.TheVariants.{Alone}
-use Rattle.bound_cert.specs.Certificate.{Certificate, IsInGrammar}
+use Rattle.certificates.specs.declared.lines.line.SectionKind.TheVariants.{Alone}
+use Rattle.certificates.specs.Certificate.{Certificate, IsInGrammar}
 use Rattle.priced_cert.specs.declared.prices.Price.{Price}
 use Rattle.priced_cert.specs.declared.prices.RootPrice.{RootPrice}
 use Rattle.priced_cert.specs.Prices.{ArePrices, AreRootPrices}

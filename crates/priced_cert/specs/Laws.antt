@@ -1,8 +1,8 @@
 -- What follows of texts of certificates of version 3.
 use Rattle.std.specs.Prelude.{◌≡◌, ℕ, List}
 use Rattle.ascii_text.specs.Line.{lines_of as text_lines}
-use Rattle.bound_cert.specs.Certificate.{Certificate}
-use Rattle.bound_cert.specs.Texts.{AreLinesOf}
+use Rattle.certificates.specs.Certificate.{Certificate}
+use Rattle.certificates.specs.Texts.{AreLinesOf}
 use Rattle.priced_cert.specs.Certificate.{PricedCertificate, IsPricedInGrammar}
 use Rattle.priced_cert.specs.Texts.{ArePricedLinesOf, priced_text, SaysPriced}
 

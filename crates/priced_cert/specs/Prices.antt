@@ -1,7 +1,7 @@
 -- Prices of facts: what they may be, their order, and their lines.
 use Rattle.std.specs.Prelude.{◌≡◌, ◌⊎◌, ℕ, ◌-◌, ◌/◌, ◌%◌, ◌<◌, ◌^◌, List, [], ◌++◌, length, slice_get, All, AllPairs, Option, Some, None, MatchOption}
 use Rattle.std.specs.Prelude.{codes, decimal}
-use Rattle.bound_cert.specs.CertLines.{behind_space, node_text}
+use Rattle.certificates.specs.CertLines.{behind_space, node_text}
 use Rattle.priced_cert.specs.declared.prices.Price.{Price}
 use Rattle.priced_cert.specs.declared.prices.RootPrice.{RootPrice}
 

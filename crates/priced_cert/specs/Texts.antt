@@ -1,12 +1,12 @@
 -- The text of a certificate of version 3, line by line.
 use Rattle.std.specs.Prelude.{◌≡◌, ℕ, ◌+◌, ◌≤◌, ◌<◌, List, [], ◌∷◌, ◌++◌, length, map, take, flat_map, codes}
 use Rattle.ascii_text.specs.Line.{lines_of as text_lines}
-use Rattle.bound_cert.specs.declared.lines.line.CertLine.TheVariants.{Root, Bound}
-use Rattle.bound_cert.specs.declared.cert.CertSection.{CertSection}
-use Rattle.bound_cert.specs.declared.reader.CertFault.{CertFault}
-use Rattle.bound_cert.specs.declared.reader.CertFault.TheVariants.{Line, NoMemory}
-use Rattle.bound_cert.specs.CertLines.{line_text}
-use Rattle.bound_cert.specs.Texts.{section_said}
+use Rattle.certificates.specs.declared.lines.line.CertLine.TheVariants.{Root, Bound}
+use Rattle.certificates.specs.declared.cert.CertSection.{CertSection}
+use Rattle.certificates.specs.declared.reader.CertFault.{CertFault}
+use Rattle.certificates.specs.declared.reader.CertFault.TheVariants.{Line, NoMemory}
+use Rattle.certificates.specs.CertLines.{line_text}
+use Rattle.certificates.specs.Texts.{section_said}
 use Rattle.priced_cert.specs.declared.prices.Price.{Price}
 use Rattle.priced_cert.specs.Prices.{price_line, root_price_line}
 use Rattle.priced_cert.specs.Certificate.{PricedCertificate, IsPricedInGrammar}

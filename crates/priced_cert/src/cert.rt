@@ -2,7 +2,7 @@
 ghost use Rattle.std.specs.Prelude.{◌≡◌};
 
 use crate::prices::{Prices, RootPrice};
-use bound_cert::Cert;
+use certificates::Cert;
 use std::marker::Model;
 
 /// A certificate of version 3: one of version 2, the prices of facts that count in an activation of the method that it is

@@ -1,6 +1,6 @@
 //! A text parted, line by line: the lines of prices, and the others.
 ghost use Rattle.std.specs.Prelude.{◌≡◌, [], IfOk, OnOk, IsTrue, IsSome, ◌↔◌};
-ghost use Rattle.bound_cert.specs.Finding.{Finds};
+ghost use Rattle.certificates.specs.Finding.{Finds};
 ghost use Rattle.priced_cert.specs.declared.kind.LineKind.TheVariants.{OfPrice, OfSection, OfBound, Other};
 ghost use Rattle.priced_cert.specs.declared.parting.Stage.TheVariants.{Blank, Versioned, Begun};
 ghost use Rattle.priced_cert.specs.Prices.{StandsBefore, IsLess, IsBehind, IsBehindInRoot, price_line, root_price_line};
@@ -12,7 +12,7 @@ use crate::kind::{LineKind, is_version, kind_of};
 use crate::price_lines::{root_price, section_price};
 use crate::prices::{Price, Prices, RootPrice};
 use base::NoMemory;
-use bound_cert::Cert;
+use certificates::Cert;
 use std::alloc::Global;
 
 /// What lines may follow.

@@ -1,5 +1,5 @@
 //! Lines of prices read.
-ghost use Rattle.bound_cert.specs.Finding.{Finds};
+ghost use Rattle.certificates.specs.Finding.{Finds};
 ghost use Rattle.priced_cert.specs.Prices.{price_line, price_text, root_price_line, root_price_text, visit_text, fee_text};
 ghost use Rattle.priced_cert.specs.Prices.{IsPriceInRange, IsRootPriceInRange, IsVisit, IsFee};
 

@@ -11,7 +11,7 @@ use crate::kind::{LineKind, is_version, kind_of};
 use crate::parting::Parting;
 use ascii_text::lines;
 use base::NoMemory;
-use bound_cert::{CertFault, read_cert};
+use certificates::{CertFault, read_cert};
 use std::alloc::Global;
 
 /// Whether the first line of a text says version 3. Then `read_priced_cert` reads it, and otherwise `read_cert`.

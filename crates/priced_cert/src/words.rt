@@ -1,7 +1,7 @@
 //! The words in a line of a price.
 ghost use Rattle.std.specs.Prelude.{◌≡◌, ◌==◌, ◌<◌, ◌^◌, ◌++◌, ◌∷◌, decimal, position, MatchOption};
-ghost use Rattle.bound_cert.specs.CertLines.{node_text};
-ghost use Rattle.bound_cert.specs.Finding.{Finds, HasNoSpace, IsFirstPart};
+ghost use Rattle.certificates.specs.CertLines.{node_text};
+ghost use Rattle.certificates.specs.Finding.{Finds, HasNoSpace, IsFirstPart};
 ghost use Rattle.priced_cert.specs.Prices.{IsNode, IsHeader, IsPriceValue, header_text};
 
 use ascii_text::read_u64;

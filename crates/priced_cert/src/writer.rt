@@ -1,6 +1,6 @@
 //! Certificates of version 3 written as texts: the lines of prices are put among those of the certificate of version 2.
 ghost use Rattle.std.specs.Prelude.{◌≡◌, ◌++◌, [], decimal, flat_map, drop, slice_index_or, IfOk, OnOk};
-ghost use Rattle.bound_cert.specs.CertLines.{node_text};
+ghost use Rattle.certificates.specs.CertLines.{node_text};
 ghost use Rattle.priced_cert.specs.Prices.{per_text};
 ghost use Rattle.priced_cert.specs.Certificate.{IsPricedInGrammar};
 ghost use Rattle.priced_cert.specs.Texts.{priced_text, fed_line};
@@ -11,7 +11,7 @@ use crate::kind::{LineKind, kind_of};
 use crate::prices::{Price, Prices, RootPrice};
 use ascii_text::{Lines, lines, put_u64};
 use base::NoMemory;
-use bound_cert::write_cert;
+use certificates::write_cert;
 use std::alloc::Global;
 
 /// The text of a certificate.

@@ -7,7 +7,7 @@ use Rattle.std.proofs.lemmas.Bool.Decides.{Decides-eqb}
 use Rattle.std.proofs.lemmas.List.{reverse-append}
 use Rattle.std.proofs.Math.Seq.{drop-cons}
 use Rattle.lists.proofs.FirstLemmas.{flat_map-more}
-use Rattle.upward_sets.specs.Numbers.{with_number}
+use Rattle.number_sets.specs.Numbers.{with_number}
 use Rattle.program_tables.specs.Lists.{distinct, with_item, with_items}
 use Rattle.program_tables.proofs.MentionLemmas.{with_items-append, first_mentions}
 

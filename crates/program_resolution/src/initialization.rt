@@ -14,8 +14,8 @@ use class_lookup::parts::{has_flags, has_signature, name_of};
 use class_making::parts::text;
 use class_pool::{ClassFile, Units};
 use class_rules::flags::ACC_STATIC;
+use number_sets::NumberSet;
 use std::alloc::Global;
-use upward_sets::NumberSet;
 
 /// Whether the class has an initialization method.
 fn is_initialized(alloc: Global, class: &ClassFile) -> Result<bool, NoMemory>

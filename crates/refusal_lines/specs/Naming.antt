@@ -6,7 +6,7 @@ use Rattle.class_pool.specs.Grammar.{entry_at}
 use Rattle.class_pool.specs.declared.class.ClassFile.{ClassFile}
 use Rattle.class_lookup.specs.Parts.{name_of}
 use Rattle.core_classes.specs.Core.{core}
-use Rattle.method_names.specs.Written.{written}
+use Rattle.name_laws.specs.Written.{written}
 use Rattle.program_resolution.specs.Resolving.{AreClassesOf}
 use Rattle.program_resolution.specs.declared.refusal.ProgramRefusal.{ProgramRefusal}
 use Rattle.program_resolution.specs.declared.refusal.ProgramRefusal.TheVariants.{Duplicate, Unresolved}

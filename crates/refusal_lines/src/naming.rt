@@ -18,7 +18,7 @@ use class_lookup::parts::name_of;
 use class_pool::ClassFile;
 use class_pool::utf8::text_bytes;
 use core_classes::core_classes;
-use method_names::write_name;
+use name_laws::write_name;
 use program_resolution::ProgramRefusal;
 use program_tables::Why;
 use std::alloc::Global;

@@ -3,11 +3,11 @@ ghost use Rattle.std.specs.Prelude.{◌≡◌, ◌<◌, ◌≤◌, ◌+◌, ◌*
 ghost use Rattle.class_pool.specs.declared.class.ClassFile.{ClassFile};
 ghost use Rattle.class_pool.specs.Utf8.{unit_bytes, utf8_bytes};
 ghost use Rattle.class_lookup.specs.Parts.{name_of};
-ghost use Rattle.method_names.specs.Written.{written_byte, written};
+ghost use Rattle.name_laws.specs.Written.{written_byte, written};
 ghost use Rattle.refusal_lines.specs.Room.{HasRoom};
 
 use class_lookup::parts::name_of;
-use method_names::{put_byte, put_first};
+use name_laws::{put_byte, put_first};
 use resolved_program::Program;
 
 /// Puts a byte last.

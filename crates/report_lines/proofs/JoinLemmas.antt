@@ -9,8 +9,8 @@ use Rattle.lists.specs.Members.{at_head, in_tail, cons_cases, nil_contains, map_
 use Rattle.indexmap.specs.IndexSet.{insert_key}
 use Rattle.indexmap.proofs.CallerLemmas.{Contains-insert_key}
 use Rattle.report_lines.specs.declared.key.Key.{Key}
-use Rattle.report_rows.specs.declared.rows.ReportRow.{ReportRow}
-use Rattle.report_rows.specs.Rows.{cycles_of}
+use Rattle.bound_report.specs.declared.contents.rows.ReportRow.{ReportRow}
+use Rattle.bound_report.specs.Contents.Rows.{cycles_of}
 use Rattle.report_lines.specs.Entries.{key_of, same_key, rows_at, IsOfAll}
 use Rattle.report_lines.specs.Joining.{with_cycles, with_row, AreJoined}
 use Rattle.report_lines.proofs.KeyLemmas.{keys_are, key_itself, are_keys, other_way}

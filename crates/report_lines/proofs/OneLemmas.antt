@@ -4,7 +4,7 @@ use Rattle.std.specs.Prelude.{AllPairs}
 use Rattle.std.proofs.lemmas.Bool.{cases_Bool}
 use Rattle.lists.specs.Members.{at_head, in_tail, cons_cases, nil_contains}
 use Rattle.report_lines.specs.declared.key.Key.{Key}
-use Rattle.report_rows.specs.declared.rows.ReportRow.{ReportRow}
+use Rattle.bound_report.specs.declared.contents.rows.ReportRow.{ReportRow}
 use Rattle.report_lines.specs.Entries.{key_of, same_key, rows_at, IsOfAll, ComesBefore, AreEntries}
 use Rattle.report_lines.specs.Text.{report_lines}
 use Rattle.report_lines.specs.Laws.{ReportTextsAreOne}

@@ -14,7 +14,7 @@ use Rattle.std.proofs.lemmas.List.Sorted.{ranks_by, sorted_far, IsPermutation-ma
 use Rattle.std.proofs.lemmas.Map.Keys.{IsDistinct-IsPermutation}
 use Rattle.std.proofs.lemmas.Map.Made.{AllPairs-from_IsDistinct}
 use Rattle.report_lines.specs.declared.key.Key.{Key}
-use Rattle.report_rows.specs.declared.rows.ReportRow.{ReportRow}
+use Rattle.bound_report.specs.declared.contents.rows.ReportRow.{ReportRow}
 use Rattle.report_lines.specs.Entries.{key_of, same_key, spot_by, ComesBefore, AreEntries}
 use Rattle.report_lines.specs.Joining.{stands_before, AreJoined}
 use Rattle.report_lines.proofs.KeyLemmas.{keys_are, are_keys, flips}

@@ -4,8 +4,8 @@ use Rattle.std.specs.Prelude.{AllPairs, sum_by, if◌then◌else◌}
 use Rattle.std.proofs.lemmas.Bool.{cases_Bool}
 use Rattle.std.proofs.lemmas.List.Sums.{sum_by-cons}
 use Rattle.lists.specs.Members.{at_head, in_tail, cons_cases, nil_contains}
-use Rattle.report_rows.specs.declared.rows.ReportRow.{ReportRow}
-use Rattle.report_rows.specs.Rows.{cycles_of}
+use Rattle.bound_report.specs.declared.contents.rows.ReportRow.{ReportRow}
+use Rattle.bound_report.specs.Contents.Rows.{cycles_of}
 use Rattle.report_lines.specs.Entries.{key_of, same_key, rows_at, IsOfAll}
 use Rattle.report_lines.specs.Laws.{LinesAddUp}
 use Rattle.report_lines.proofs.KeyLemmas.{keys_are, are_keys}

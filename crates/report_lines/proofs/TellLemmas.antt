@@ -9,20 +9,20 @@ use Rattle.lists.proofs.FirstLemmas.{flat_map-more}
 use Rattle.lists.proofs.Lemmas.{none≢some, some_same}
 use Rattle.lists.specs.Members.{at_head, in_tail}
 use Rattle.class_pool.specs.declared.class.ClassFile.{ClassFile}
-use Rattle.method_sources.specs.Sources.{source_at}
-use Rattle.method_sources.specs.Told.{source_by}
-use Rattle.method_sources.proofs.BodyLemmas.{body_is}
+use Rattle.source_places.specs.Methods.Sources.{source_at}
+use Rattle.source_places.specs.Methods.Told.{source_by}
+use Rattle.source_places.proofs.MethodsLemmas.BodyLemmas.{body_is}
 use Rattle.program_tables.specs.Laws.{MethodsStandByNumber}
 use Rattle.report_lines.specs.declared.key.Key.{Key}
 use Rattle.report_lines.specs.declared.methods.MethodText.{MethodText}
-use Rattle.report_rows.specs.declared.rows.ReportRow.{ReportRow}
-use Rattle.report_rows.specs.declared.rows.ReportTotals.{ReportTotals}
-use Rattle.report_rows.specs.Rows.{cycles_of}
+use Rattle.bound_report.specs.declared.contents.rows.ReportRow.{ReportRow}
+use Rattle.bound_report.specs.declared.contents.rows.ReportTotals.{ReportTotals}
+use Rattle.bound_report.specs.Contents.Rows.{cycles_of}
 use Rattle.report_lines.specs.Entries.{key_of, same_key, spot_by, rows_at, IsOfAll, AreEntries}
 use Rattle.report_lines.specs.Joining.{AreJoined}
 use Rattle.program_tables.specs.Resolved.{resolved}
-use Rattle.method_names.specs.Written.{written_name}
-use Rattle.report_rows.specs.Rows.{AreOfCode}
+use Rattle.name_laws.specs.Written.{written_name}
+use Rattle.bound_report.specs.Contents.Rows.{AreOfCode}
 use Rattle.report_lines.specs.Report.{IsReportText}
 use Rattle.report_lines.specs.Text.{entry_line, entry_text, other_lines, report_lines, IsTextBy}
 use Rattle.report_lines.specs.Told.{AreTextsOf, IsTextOf, name_told, source_told}

@@ -3,8 +3,8 @@ use Rattle.std.specs.Prelude.{◌≡◌, ◌≢◌, ◌⊎◌, ℕ, ◌<◌, ◌
 use Rattle.report_lines.specs.declared.key.Key.{Key}
 use Rattle.report_lines.specs.declared.key.Spot.{Spot}
 use Rattle.report_lines.specs.declared.key.Spot.TheVariants.{Line, Place}
-use Rattle.report_rows.specs.declared.rows.ReportRow.{ReportRow}
-use Rattle.report_rows.specs.Rows.{cycles_of}
+use Rattle.bound_report.specs.declared.contents.rows.ReportRow.{ReportRow}
+use Rattle.bound_report.specs.Contents.Rows.{cycles_of}
 
 -- ---- where a row stands
 

@@ -1,7 +1,7 @@
 -- One row more among entries, and the order of entries as a test.
 use Rattle.std.specs.Prelude.{ℕ, ◌+◌, Bool, List, [], ◌∷◌, Option, Contains, map, if◌then◌else◌}
 use Rattle.std.specs.Ordering.{is_lt, nat_cmp, ordering_then}
-use Rattle.report_rows.specs.declared.rows.ReportRow.{ReportRow}
+use Rattle.bound_report.specs.declared.contents.rows.ReportRow.{ReportRow}
 use Rattle.report_lines.specs.Entries.{key_of, same_key, rows_at, IsOfAll}
 
 -- an entry with the cycles of a row

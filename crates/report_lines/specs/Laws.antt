@@ -1,8 +1,8 @@
 -- What follows of reports.
 use Rattle.std.specs.Prelude.{◌≡◌, ℕ, List, Option}
-use Rattle.report_rows.specs.declared.rows.ReportRow.{ReportRow}
-use Rattle.report_rows.specs.declared.rows.ReportTotals.{ReportTotals}
-use Rattle.report_rows.specs.Rows.{cycles_of}
+use Rattle.bound_report.specs.declared.contents.rows.ReportRow.{ReportRow}
+use Rattle.bound_report.specs.declared.contents.rows.ReportTotals.{ReportTotals}
+use Rattle.bound_report.specs.Contents.Rows.{cycles_of}
 use Rattle.report_lines.specs.Entries.{AreEntries}
 use Rattle.report_lines.specs.Text.{IsTextBy}
 

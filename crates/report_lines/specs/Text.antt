@@ -1,7 +1,7 @@
 -- The text of a report: where a bound comes from, by the lines of the source.
 use Rattle.std.specs.Prelude.{◌≡◌, ℕ, zero, suc, ◌*◌, ◌/◌, List, ◌++◌, Option, Some, None, codes, decimal, flat_map}
-use Rattle.report_rows.specs.declared.rows.ReportRow.{ReportRow}
-use Rattle.report_rows.specs.declared.rows.ReportTotals.{ReportTotals}
+use Rattle.bound_report.specs.declared.contents.rows.ReportRow.{ReportRow}
+use Rattle.bound_report.specs.declared.contents.rows.ReportTotals.{ReportTotals}
 use Rattle.report_lines.specs.Entries.{AreEntries}
 
 -- a part of a bound in percent, rounded down; none of a bound of no cycles

@@ -3,8 +3,8 @@ use Rattle.std.specs.Prelude.{◌≡◌, ℕ, List, [], length, Option, Some, sl
 use Rattle.std.specs.Option.{option_map_or}
 use Rattle.lists.specs.Lists.{onto}
 use Rattle.class_pool.specs.declared.class.ClassFile.{ClassFile}
-use Rattle.method_names.specs.Written.{written_name}
-use Rattle.method_sources.specs.Told.{source_by, IsSourceOf}
+use Rattle.name_laws.specs.Written.{written_name}
+use Rattle.source_places.specs.Methods.Told.{source_by, IsSourceOf}
 use Rattle.program_tables.specs.Numbers.{methods_by_number}
 use Rattle.report_lines.specs.declared.methods.MethodText.{MethodText}
 

@@ -2,7 +2,7 @@
 ghost use Rattle.std.specs.Prelude.{◌≡◌, ◌+◌, ◌<◌, ◌^◌, ℕ, List, Option, Contains, IfOk, OnOk, length, map};
 ghost use Rattle.std.specs.List.{IsDistinct};
 ghost use Rattle.std.specs.List.Sorted.{IsPermutation, IsSortedBy};
-ghost use Rattle.report_rows.specs.Rows.{cycles_of};
+ghost use Rattle.bound_report.specs.Contents.Rows.{cycles_of};
 ghost use Rattle.report_lines.specs.Entries.{key_of, same_key, AreEntries};
 ghost use Rattle.report_lines.specs.Joining.{with_row, stands_before, AreJoined};
 ghost use Rattle.report_lines.specs.Told.{source_told};
@@ -10,8 +10,8 @@ ghost use Rattle.report_lines.specs.Told.{source_told};
 use crate::key::{Key, key_of};
 use crate::methods::MethodText;
 use base::NoMemory;
+use bound_report::contents::ReportRow;
 use indexmap::IndexSet;
-use report_rows::ReportRow;
 use std::alloc::Global;
 use std::cmp::Reverse;
 

@@ -4,8 +4,8 @@ ghost use Rattle.report_lines.specs.Entries.{key_of, spot_by};
 ghost use Rattle.report_lines.specs.Told.{source_told};
 
 use crate::methods::MethodText;
-use method_sources::source_at;
-use report_rows::ReportRow;
+use bound_report::contents::ReportRow;
+use source_places::methods::source_at;
 
 /// Where an instruction stands in the source of its method.
 #[derive(Clone, Copy, PartialEq, Eq, Hash)]

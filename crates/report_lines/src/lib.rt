@@ -3,7 +3,7 @@
 
 ghost use Rattle.std.specs.Prelude.{◌≡◌, ◌<◌, ◌^◌, Contains, length, codes, IfOk};
 ghost use Rattle.program_tables.specs.Resolved.{resolved};
-ghost use Rattle.report_rows.specs.Rows.{AreOfCode, cycles_of};
+ghost use Rattle.bound_report.specs.Contents.Rows.{AreOfCode, cycles_of};
 ghost use Rattle.report_lines.specs.Report.{IsReportText};
 ghost use Rattle.report_lines.specs.Text.{IsTextBy};
 ghost use Rattle.report_lines.specs.Told.{name_told, source_told};
@@ -15,11 +15,11 @@ mod lines;
 mod methods;
 
 use base::NoMemory;
+use bound_report::contents::{ReportRow, ReportTotals};
 use entries::entries_of;
 use lines::text_of;
 use methods::{MethodText, methods_of};
 use program_tables::laws::methods_stand_by_number;
-use report_rows::{ReportRow, ReportTotals};
 use resolved_program::Program;
 use std::alloc::Global;
 

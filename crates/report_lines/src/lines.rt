@@ -1,15 +1,15 @@
 //! The lines of a report.
 ghost use Rattle.std.specs.Prelude.{◌≡◌, ◌++◌, ◌<◌, ◌^◌, Contains, length, codes, decimal, flat_map, option_map, IfOk, OnOk};
-ghost use Rattle.method_sources.specs.Told.{source_by};
+ghost use Rattle.source_places.specs.Methods.Told.{source_by};
 ghost use Rattle.report_lines.specs.Text.{entry_line, entry_text, head_text, other_lines, part_text, report_lines, share};
 ghost use Rattle.report_lines.specs.Told.{name_told, source_told};
 
 use crate::methods::MethodText;
 use ascii_text::put_u64;
 use base::NoMemory;
+use bound_report::contents::{ReportRow, ReportTotals};
 use itoa::Buffer;
-use method_sources::source_at;
-use report_rows::{ReportRow, ReportTotals};
+use source_places::methods::source_at;
 use std::alloc::Global;
 
 /// Appends the digits of `n`.

@@ -4,9 +4,9 @@ ghost use Rattle.program_tables.specs.Numbers.{methods_by_number};
 ghost use Rattle.report_lines.specs.Told.{AreTextsOf, IsTextOf};
 
 use base::NoMemory;
-use method_names::written_name;
-use method_sources::{MethodSource, source_of};
+use name_laws::written_name;
 use resolved_program::Program;
+use source_places::methods::{MethodSource, source_of};
 use std::alloc::Global;
 
 /// The name of a method as it is written, and its source where it is told.

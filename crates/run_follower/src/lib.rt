@@ -4,6 +4,7 @@
 
 mod follower;
 mod here;
+pub mod watch;
 
 pub use follower::{Follower, NoFollower};
 pub use here::Here;

@@ -6,12 +6,12 @@ use Rattle.std.proofs.lemmas.List.{append_cancel_left, take_at, take-append-drop
 use Rattle.std.specs.List.{AllByRecursion}
 use Rattle.std.proofs.lemmas.List.Elements.{All-from_recursion}
 use Rattle.std.proofs.lemmas.Fmt.{decimal_injective}
-use Rattle.method_names.proofs.Escapes.{written_high}
+use Rattle.name_laws.proofs.Escapes.{written_high}
 use lib.Pointwise.{pointwise, bytes_decides}
 use Rattle.ascii_text.specs.Number.{IsDecimalNumber, value_of}
 use Rattle.ascii_text.proofs.NumberLemmas.{HasOneSpelling-decimal}
 use Rattle.slot_table.specs.declared.slot.Slot.{Slot}
-use Rattle.method_names.specs.Written.{written}
+use Rattle.name_laws.specs.Written.{written}
 use Rattle.slot_table.specs.Slots.{name_text, slot_word, IsRightSlot}
 use Rattle.slot_table.specs.Grammar.{IsSlotLine}
 use Rattle.slot_table.specs.Parts.{IsCut, ArePartsOf, IsNameOf, IsWordOf}

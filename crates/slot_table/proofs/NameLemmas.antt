@@ -9,7 +9,7 @@ use Rattle.std.proofs.lemmas.List.Elements.{All-nil, All-cons, All-append}
 use lib.Pointwise.{pointwise, bytes_decides}
 use Rattle.class_pool.specs.Utf8.{is_single, unit_bytes, utf8_bytes, AreUnits}
 use Rattle.descriptors.specs.Names.{is_plain, is_path, is_class_name, is_method_name}
-use Rattle.method_names.specs.Written.{written, name_in}
+use Rattle.name_laws.specs.Written.{written, name_in}
 use Rattle.slot_table.specs.Parts.{IsCut, IsTextOf, IsClassText, IsMethodText, IsNameOf, IsWordOf}
 use Rattle.base.specs.declared.fault.FormatFault.{FormatFault}
 use Rattle.base.specs.declared.fault.FormatFault.TheVariants as formats

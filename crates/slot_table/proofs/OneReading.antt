@@ -7,7 +7,7 @@ use Rattle.ascii_text.specs.Line.{lines_of}
 use Rattle.slot_table.specs.declared.slot.Slot.{Slot}
 use Rattle.slot_table.specs.declared.table.TableFault.{TableFault}
 use Rattle.slot_table.specs.declared.table.TableFault.TheVariants as faults
-use Rattle.method_names.proofs.ReadBack.{alike_are_one}
+use Rattle.name_laws.proofs.ReadBack.{alike_are_one}
 use Rattle.slot_table.specs.Slots.{name_text, slot_word}
 use Rattle.slot_table.specs.Grammar.{IsSilentLine, slot_line, IsSlotLine, SaysSlot, IsNoSlotLine, GiveSlots, IsSlotCount, IsTableRead, IsTableRefused}
 use Rattle.slot_table.specs.Parts.{IsNameOf}

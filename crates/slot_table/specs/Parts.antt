@@ -3,7 +3,7 @@ use Rattle.std.specs.Prelude.{◌≡◌, ◌≢◌, ℕ, ◌<◌, ◌≤◌, ◌
 use Rattle.class_pool.specs.Utf8.{utf8_bytes}
 use Rattle.class_rules.specs.Rules.{IsClassName, IsMethodName}
 use Rattle.class_making.specs.Right.{IsPoolText}
-use Rattle.method_names.specs.Written.{written}
+use Rattle.name_laws.specs.Written.{written}
 
 -- the text before the first byte of this value, and the text behind it
 pub record IsCut (byte : ℕ) (text before behind : List ℕ) : Type 0 where

@@ -4,7 +4,7 @@ use Rattle.std.specs.List.{AllByRecursion}
 use Rattle.class_pool.specs.Utf8.{utf8_bytes}
 use Rattle.class_rules.specs.Rules.{IsClassName, IsMethodName}
 use Rattle.class_making.specs.Right.{IsPoolText}
-use Rattle.method_names.specs.Written.{written}
+use Rattle.name_laws.specs.Written.{written}
 use Rattle.slot_table.specs.declared.slot.Slot.{Slot}
 
 abbrev pub length_of : Slot → ℕ

@@ -6,7 +6,7 @@ ghost use Rattle.slot_table.specs.Executive.{executive_of};
 use crate::class::executive;
 use crate::table::SlotTable;
 use base::NoMemory;
-use class_write::write_class;
+use class_file::writing::write_class;
 use std::alloc::Global;
 
 /// The bytes of the file of the class `Cyclic`, whose main calls the slots of the table in order, so many rounds (JVM Specification SE 8,

@@ -8,8 +8,8 @@ use crate::units::units_of;
 use base::FormatFault;
 use class_pool::Units;
 use descriptors::names::{is_class_name, is_method_name};
-use method_names::laws::written_are_read;
-use method_names::read_name;
+use name_laws::laws::written_are_read;
+use name_laws::read_name;
 use std::alloc::Global;
 
 /// The most bytes of a text in a constant pool (JVM Specification SE 8, 4.4.7).

@@ -5,7 +5,7 @@ ghost use Rattle.slot_table.specs.Slots.{name_text, slot_word};
 use base::NoMemory;
 use class_pool::Units;
 use class_pool::utf8::put_text;
-use method_names::put_written;
+use name_laws::put_written;
 use std::alloc::Global;
 
 /// A slot: the static method without arguments that it calls, and how many cycles the call may take.

@@ -7,7 +7,7 @@ use lib.Pointwise.{pointwise, bytes_decides}
 use Rattle.lists.proofs.Lemmas.{none≢some, some_same}
 use Rattle.lists.specs.Members.{at_head, in_tail, cons_cases, nil_contains}
 use Rattle.lists.specs.Tests.{and_left, and_right}
-use Rattle.loop_bounds.specs.Bounds.{LoopBound, bound_in, AreOfDifferentLoops}
+use Rattle.bound_texts.specs.Loops.Bounds.{LoopBound, bound_in, AreOfDifferentLoops}
 use Rattle.source_headers.proofs.GatherLemmas.{mapped_contains}
 
 -- the bound is of the loop

@@ -6,9 +6,9 @@ use Rattle.std.proofs.lemmas.Option.{slice_get-get_or, slice_get_within}
 use Rattle.lists.proofs.Lemmas.{none≢some, some_same, map_some}
 use Rattle.lists.specs.Members.{at_head, in_tail, cons_cases, nil_contains}
 use Rattle.class_pool.specs.declared.class.ClassFile.{ClassFile}
-use Rattle.method_sources.specs.declared.sources.MethodSource.{MethodSource}
-use Rattle.method_sources.specs.Sources.{file_of, IsFileOf}
-use Rattle.method_sources.specs.Told.{line_at, source_by}
+use Rattle.source_places.specs.declared.methods.sources.MethodSource.{MethodSource}
+use Rattle.source_places.specs.Methods.Sources.{file_of, IsFileOf}
+use Rattle.source_places.specs.Methods.Told.{line_at, source_by}
 use Rattle.bound_causes.specs.declared.shapes.Shape.{Shape}
 use Rattle.bound_causes.specs.declared.shapes.Shape.TheVariants.{Irreducible, Reducible}
 use Rattle.source_headers.specs.Known.{KnownSites, IsWith}

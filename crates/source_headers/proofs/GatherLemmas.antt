@@ -10,23 +10,23 @@ use Rattle.lists.specs.Members.{at_head, in_tail, cons_cases, nil_contains}
 use Rattle.class_pool.specs.declared.class.ClassFile.{ClassFile}
 use Rattle.bytecode_model.specs.Program.{body_of}
 use Rattle.program_tables.specs.Resolved.{resolved}
-use Rattle.method_names.specs.Written.{written_name}
+use Rattle.name_laws.specs.Written.{written_name}
 use Rattle.method_flow.specs.Flow.{Flow, IsFlowOf}
 use Rattle.loop_rules.specs.declared.found.FoundLoop.{FoundLoop}
-use Rattle.source_bounds.specs.Notes.{Subject, AtLine, AtPlace, Note}
+use Rattle.bound_texts.specs.Sources.Notes.{Subject, AtLine, AtPlace, Note}
 use Rattle.bound_causes.specs.Shapes.{IsShape}
 use Rattle.bound_causes.specs.declared.shapes.Shape.{Shape}
 use Rattle.bound_causes.specs.declared.shapes.Shape.TheVariants.{Irreducible, Reducible}
-use Rattle.method_sources.specs.declared.sources.MethodSource.{MethodSource}
+use Rattle.source_places.specs.declared.methods.sources.MethodSource.{MethodSource}
 use Rattle.source_headers.specs.declared.methods.MethodLoops.{MethodLoops}
 use Rattle.source_headers.specs.declared.gathering.Gathered.{Gathered}
-use Rattle.method_sources.specs.Sources.{source_at, IsFileOf}
+use Rattle.source_places.specs.Methods.Sources.{source_at, IsFileOf}
 use Rattle.source_headers.specs.Headers.{found_at, header_at, header_lines, method_lines, IsMethodText}
 use Rattle.source_headers.specs.Straying.{MayBeBounded, IsHeaderAt, IsStray}
 use Rattle.source_headers.specs.Files.{AreMethodTexts}
 use Rattle.source_headers.specs.Known.{KnownSites, IsWith}
-use Rattle.method_sources.specs.Told.{source_by}
-use Rattle.report_rows.specs.Rows.{IsCodePlace}
+use Rattle.source_places.specs.Methods.Told.{source_by}
+use Rattle.bound_report.specs.Contents.Rows.{IsCodePlace}
 use Rattle.bound_rules.specs.Bounding.{IsLeftWith}
 use Rattle.source_headers.specs.Told.{headed_places, header_by, lines_by, IsToldPlace, IsToldOf}
 use Rattle.source_headers.specs.Gathered.{IsNameOf, IsPlaceOf, IsLineOf, AreBelow, AreFiles, AreGathered, IsLineBy, IsNameBy, AddsLines, AddsPlaces, AddsMethod, IsLacking, AreKnown}

@@ -7,11 +7,11 @@ use Rattle.lists.proofs.FirstLemmas.{flat_map-more}
 use Rattle.lists.specs.Members.{rising_pair}
 use Rattle.loop_nest.specs.Digraph.{IsBefore}
 use Rattle.loop_rules.specs.declared.found.FoundLoop.{FoundLoop}
-use Rattle.source_bounds.specs.Notes.{Note}
-use Rattle.method_sources.specs.declared.sources.MethodSource.{MethodSource}
+use Rattle.bound_texts.specs.Sources.Notes.{Note}
+use Rattle.source_places.specs.declared.methods.sources.MethodSource.{MethodSource}
 use Rattle.source_headers.specs.Found.{IsLeftFrom}
 use Rattle.source_headers.specs.Headers.{found_at, header_lines}
-use Rattle.method_sources.specs.Told.{source_by}
+use Rattle.source_places.specs.Methods.Told.{source_by}
 use Rattle.source_headers.specs.Told.{header_by, headers_by}
 use Rattle.source_headers.proofs.FoundLemmas.{before_itself}
 

@@ -13,7 +13,7 @@ use Rattle.lists.specs.Tests.{and_left, and_right}
 use Rattle.indexmap.specs.IndexSet.{insert_key}
 use Rattle.indexmap.proofs.CallerLemmas.{Contains-list_any}
 use lib.Pointwise.{pointwise, bytes_decides}
-use Rattle.loop_bounds.proofs.NameLemmas.{texts, same_text, AreApart, IsGrown}
+use Rattle.bound_texts.proofs.LoopsLemmas.NameLemmas.{texts, same_text, AreApart, IsGrown}
 use Rattle.source_headers.specs.declared.site.Site.{Site}
 use Rattle.source_headers.specs.Known.{site_by, IsWith, LacksSite}
 

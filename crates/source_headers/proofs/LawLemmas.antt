@@ -6,14 +6,14 @@ use Rattle.std.proofs.lemmas.Option.{slice_get-get_or}
 use Rattle.lists.proofs.Lemmas.{none≢some, some_same}
 use Rattle.class_pool.specs.declared.class.ClassFile.{ClassFile}
 use Rattle.program_tables.specs.Resolved.{resolved}
-use Rattle.method_names.specs.Written.{written_name}
+use Rattle.name_laws.specs.Written.{written_name}
 use Rattle.loop_nest.specs.Digraph.{Digraph}
 use Rattle.loop_nest.specs.Walks.{IsHeader, KeepsBound}
 use Rattle.method_flow.specs.Graphs.{IsGraphOf}
 use Rattle.method_flow.specs.Keeping.{BoundOf}
 use Rattle.method_flow.specs.Regions.{IsWithin}
 use Rattle.loop_rules.specs.declared.found.FoundLoop.{FoundLoop}
-use Rattle.source_bounds.specs.Notes.{Note, AtPlace, bound_in}
+use Rattle.bound_texts.specs.Sources.Notes.{Note, AtPlace, noted_bound}
 use Rattle.compact_walks.specs.Laws.{GraphsAreMoved, PartsAreSound, EndsAreOne}
 use Rattle.bound_rules.specs.Bounding.{AreReducible, HaveLines, IsLeftWith}
 use Rattle.bound_rules.specs.Laws.{GraphsAreOne}
@@ -21,7 +21,7 @@ use Rattle.bound_causes.specs.Shapes.{IsShape}
 use Rattle.bound_causes.specs.declared.shapes.Shape.{Shape}
 use Rattle.bound_causes.specs.declared.shapes.Shape.TheVariants.{Irreducible, Reducible}
 use Rattle.source_headers.specs.Headers.{lesser, found_at, header_at, said, said_of_line}
-use Rattle.method_sources.specs.Sources.{source_at}
+use Rattle.source_places.specs.Methods.Sources.{source_at}
 use Rattle.source_headers.specs.Straying.{MayBeBounded}
 use Rattle.source_headers.specs.Files.{AreMethodTexts}
 use Rattle.source_headers.specs.Laws.{written_of, HasLoopNumbers, HeaderFilesHaveLines, KeptNotesAreKept, WrittenKeepsNotes}
@@ -64,7 +64,7 @@ kept cs notes found m ns all g live p bound is =
     elim (lesser_is (found_at found m p) (said notes name (header_at cs found m p)) bound is) [
       | inl of ↦ all.found_kept g live p bound of
       | inr say ↦
-          elim (lesser_is (said_of_line notes (source_at cs m p)) (bound_in (AtPlace name p) notes) bound say) [
+          elim (lesser_is (said_of_line notes (source_at cs m p)) (noted_bound (AtPlace name p) notes) bound say) [
             | inl line ↦ all.lines_kept g live p bound line
             | inr place ↦ all.places_kept g live p bound place
           ]
@@ -81,11 +81,11 @@ exact cs notes found m ns keeps =
           let w = lesser_left (found_at found m p) (said notes name (header_at cs found m p)) bound h in
           less g p bound w.0 (keeps g live) w.1 w.2;
       lines_kept = λ g live p bound h.
-          let say = lesser_left (said_of_line notes (source_at cs m p)) (bound_in (AtPlace name p) notes) bound h in
+          let say = lesser_left (said_of_line notes (source_at cs m p)) (noted_bound (AtPlace name p) notes) bound h in
           let w = lesser_right (found_at found m p) (said notes name (header_at cs found m p)) bound say in
           less g p bound w.0 (keeps g live) w.1 w.2;
       places_kept = λ g live p bound h.
-          let say = lesser_right (said_of_line notes (source_at cs m p)) (bound_in (AtPlace name p) notes) bound (bound, h, omega arith) in
+          let say = lesser_right (said_of_line notes (source_at cs m p)) (noted_bound (AtPlace name p) notes) bound (bound, h, omega arith) in
           let w = lesser_right (found_at found m p) (said notes name (header_at cs found m p)) bound say in
           less g p bound w.0 (keeps g live) w.1 w.2;
     }

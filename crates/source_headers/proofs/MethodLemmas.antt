@@ -12,15 +12,15 @@ use Rattle.bytecode_model.specs.Program.{body_of}
 use Rattle.program_tables.specs.Laws.{MethodsStandByNumber}
 use Rattle.program_tables.specs.Resolved.{resolved}
 use Rattle.program_tables.specs.Resolving.{IsResolved}
-use Rattle.method_names.specs.Laws.{WrittenAreWords}
-use Rattle.method_names.specs.Written.{written_name, is_word}
+use Rattle.name_laws.specs.Laws.{WrittenAreWords}
+use Rattle.name_laws.specs.Written.{written_name, is_word}
 use Rattle.compact_walks.specs.Laws.{GraphsAreMoved, PartsAreSound, EndsAreOne}
 use Rattle.ascii_text.specs.Line.{lines_of}
-use Rattle.loop_bounds.specs.Bounds.{LoopBound, AreOfDifferentLoops}
-use Rattle.loop_bounds.specs.Grammar.{Give}
+use Rattle.bound_texts.specs.Loops.Bounds.{LoopBound, AreOfDifferentLoops}
+use Rattle.bound_texts.specs.Loops.Grammar.{Give}
 use Rattle.loop_rules.specs.declared.found.FoundLoop.{FoundLoop}
-use Rattle.source_bounds.specs.Notes.{Note}
-use Rattle.source_bounds.specs.Grammar.{AreNotesRead}
+use Rattle.bound_texts.specs.Sources.Notes.{Note}
+use Rattle.bound_texts.specs.Sources.Grammar.{AreNotesRead}
 use Rattle.bound_rules.specs.Laws.{GraphsAreOne}
 use Rattle.bound_causes.specs.Shapes.{IsShape}
 use Rattle.bound_causes.specs.declared.shapes.Shape.{Shape}

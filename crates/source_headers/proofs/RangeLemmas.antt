@@ -18,15 +18,15 @@ use Rattle.program_tables.specs.Resolved.{resolved}
 use Rattle.program_tables.specs.Resolving.{IsResolved}
 use Rattle.resolved_program.proofs.InstructionLemmas.{code_small}
 use Rattle.ascii_text.specs.Line.{lines_of}
-use Rattle.line_tables.specs.Source.{source_file_of}
+use Rattle.source_places.specs.Tables.Source.{source_file_of}
 use Rattle.loop_rules.specs.declared.found.FoundLoop.{FoundLoop}
-use Rattle.source_bounds.specs.Notes.{Subject, AtLine, AtPlace, Note, bound_in, same_subject}
-use Rattle.source_bounds.specs.Grammar.{SaysNotes, IsNote, GiveNotes, AreNotesRead}
-use Rattle.method_names.specs.Written.{written}
-use Rattle.method_names.specs.Laws.{WrittenAreWords}
+use Rattle.bound_texts.specs.Sources.Notes.{Subject, AtLine, AtPlace, Note, noted_bound, same_subject}
+use Rattle.bound_texts.specs.Sources.Grammar.{SaysNotes, IsNote, GiveNotes, AreNotesRead}
+use Rattle.name_laws.specs.Written.{written}
+use Rattle.name_laws.specs.Laws.{WrittenAreWords}
 use Rattle.bound_causes.specs.Shapes.{IsShape}
 use Rattle.bound_causes.specs.declared.shapes.Shape.{Shape}
-use Rattle.method_sources.specs.Sources.{class_of, file_of, line_in, source_in, source_at}
+use Rattle.source_places.specs.Methods.Sources.{class_of, file_of, line_in, source_in, source_at}
 use Rattle.source_headers.specs.Headers.{found_at, header_at, said, said_of_line, number_written}
 use Rattle.source_headers.specs.Told.{headed_places}
 use Rattle.source_headers.proofs.ToldLemmas.{header_in}
@@ -88,11 +88,11 @@ unfolding AreSmall
 lines_small [] ns h = λ n c. absurd (nil_contains n (subst (λ (xs : List Note). Contains xs n) h c))
 lines_small (line ∷ lines) ns (first, rest, is, says, more) = subst AreSmall (sym is) (line_small line first rest says (lines_small lines rest more))
 
-given_case : (s : Subject) (n : Note) (ns : List Note) (k : ℕ) (b : Bool) → (if b then Some n.bound else bound_in s ns) ≡ Some k → (n.bound ≡ k) ⊎ (bound_in s ns ≡ Some k)
+given_case : (s : Subject) (n : Note) (ns : List Note) (k : ℕ) (b : Bool) → (if b then Some n.bound else noted_bound s ns) ≡ Some k → (n.bound ≡ k) ⊎ (noted_bound s ns ≡ Some k)
 given_case s n ns k true h = inl (some_same n.bound k h)
 given_case s n ns k false h = inr h
 
-said_small : (s : Subject) (ns : List Note) → AreSmall ns → (k : ℕ) → bound_in s ns ≡ Some k → k < 2 ^ 32
+said_small : (s : Subject) (ns : List Note) → AreSmall ns → (k : ℕ) → noted_bound s ns ≡ Some k → k < 2 ^ 32
 unfolding AreSmall
 said_small s [] small k h = absurd (none≢some k h)
 said_small s (n ∷ ns) small k h =
@@ -148,7 +148,7 @@ number_small cs lines notes found read small m p name n h =
     elim (lesser_is (found_at found m p) (said notes name header) n h) [
       | inl of ↦ found_small found small m p n of
       | inr say ↦
-          elim (lesser_is (said_of_line notes (source_at cs m p)) (bound_in (AtPlace name p) notes) n say) [
+          elim (lesser_is (said_of_line notes (source_at cs m p)) (noted_bound (AtPlace name p) notes) n say) [
             | inl line ↦ line_said_small notes notes_small (source_at cs m p) n line
             | inr place ↦ said_small (AtPlace name p) notes notes_small n place
           ]

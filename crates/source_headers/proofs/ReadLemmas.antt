@@ -11,11 +11,11 @@ use Rattle.lists.specs.Members.{at_head, in_tail}
 use Rattle.lists.specs.Tests.{and_left, and_right, not_true}
 use Rattle.ascii_text.specs.Line.{lines_of, without_empty_last}
 use Rattle.ascii_text.proofs.NumberLemmas.{HasOneSpelling-decimal}
-use Rattle.loop_bounds.specs.Bounds.{LoopBound}
-use Rattle.loop_bounds.specs.Grammar.{SaysLoopBound, Give}
-use Rattle.loop_bounds.specs.Lines.{IsNumber, IsSilent}
-use Rattle.method_names.specs.Written.{is_word}
-use Rattle.source_bounds.specs.Notes.{Note}
+use Rattle.bound_texts.specs.Loops.Bounds.{LoopBound}
+use Rattle.bound_texts.specs.Loops.Grammar.{SaysLoopBound, Give}
+use Rattle.bound_texts.specs.Loops.Lines.{IsNumber, IsSilent}
+use Rattle.name_laws.specs.Written.{is_word}
+use Rattle.bound_texts.specs.Sources.Notes.{Note}
 use Rattle.source_headers.specs.Headers.{Header, number_written, source_line, number_line, header_lines, spaced, irreducible_line}
 use Rattle.source_headers.specs.Reading.{bound_written, HeadersAreRead}
 

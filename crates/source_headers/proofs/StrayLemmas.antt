@@ -9,9 +9,9 @@ use Rattle.method_flow.specs.Flow.{Flow, IsFlowOf}
 use Rattle.loop_rules.specs.declared.found.FoundLoop.{FoundLoop}
 use Rattle.loop_rules.specs.Finding.{AreCountedLoops}
 use Rattle.loop_rules.specs.Sites.{int_at}
-use Rattle.int_sites.specs.Constants.{AreConstants}
-use Rattle.source_bounds.specs.Notes.{Note}
-use Rattle.source_bounds.specs.Grammar.{AreNotesRead}
+use Rattle.program_sites.specs.Ints.Constants.{AreConstants}
+use Rattle.bound_texts.specs.Sources.Notes.{Note}
+use Rattle.bound_texts.specs.Sources.Grammar.{AreNotesRead}
 use Rattle.source_headers.specs.declared.fault.HeaderFault.{HeaderFault}
 use Rattle.source_headers.specs.declared.fault.HeaderFault.TheVariants.{BadLine, TwiceLine, Stray, NoMemory}
 use Rattle.source_headers.specs.declared.gathering.Gathered.{Gathered}

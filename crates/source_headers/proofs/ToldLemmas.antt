@@ -21,11 +21,11 @@ use Rattle.bound_causes.specs.Headers.{HeadsLoop}
 use Rattle.bound_causes.specs.Shapes.{IsShape}
 use Rattle.bound_causes.specs.declared.shapes.Shape.{Shape}
 use Rattle.bound_causes.specs.declared.shapes.Shape.TheVariants.{Irreducible, Reducible}
-use Rattle.method_sources.specs.declared.sources.MethodSource.{MethodSource}
-use Rattle.method_sources.specs.Sources.{code_in, source_at}
-use Rattle.method_sources.specs.Told.{source_by, IsSourceOf}
-use Rattle.method_sources.proofs.BodyLemmas.{body_is}
-use Rattle.report_rows.specs.Rows.{IsCodePlace}
+use Rattle.source_places.specs.declared.methods.sources.MethodSource.{MethodSource}
+use Rattle.source_places.specs.Methods.Sources.{code_in, source_at}
+use Rattle.source_places.specs.Methods.Told.{source_by, IsSourceOf}
+use Rattle.source_places.proofs.MethodsLemmas.BodyLemmas.{body_is}
+use Rattle.bound_report.specs.Contents.Rows.{IsCodePlace}
 use Rattle.source_headers.specs.Straying.{IsHeaderAt}
 use Rattle.source_headers.specs.Told.{headed_places, has_no_loops, IsToldPlace}
 

@@ -14,19 +14,19 @@ use Rattle.bytecode_model.specs.Program.{Body, body_of}
 use Rattle.program_tables.specs.Laws.{MethodsStandByNumber}
 use Rattle.program_tables.specs.Resolved.{resolved}
 use Rattle.program_tables.specs.Resolving.{IsResolved}
-use Rattle.method_names.specs.Laws.{WrittenAreWords, WrittenNamesAreOne}
-use Rattle.method_names.specs.Written.{written_name}
+use Rattle.name_laws.specs.Laws.{WrittenAreWords, WrittenNamesAreOne}
+use Rattle.name_laws.specs.Written.{written_name}
 use Rattle.compact_walks.specs.Laws.{GraphsAreMoved, PartsAreSound, EndsAreOne}
 use Rattle.loop_nest.specs.Digraph.{Digraph}
 use Rattle.loop_nest.specs.Walks.{IsHeader}
 use Rattle.ascii_text.specs.Line.{lines_of}
-use Rattle.loop_bounds.specs.Bounds.{LoopBound, bound_in, AreOfDifferentLoops}
-use Rattle.loop_bounds.specs.Grammar.{Give, IsRead}
-use Rattle.loop_bounds.specs.Laws.{GivesOne}
+use Rattle.bound_texts.specs.Loops.Bounds.{LoopBound, bound_in, AreOfDifferentLoops}
+use Rattle.bound_texts.specs.Loops.Grammar.{Give, IsRead}
+use Rattle.bound_texts.specs.Loops.Laws.{GivesOne}
 use Rattle.loop_rules.specs.declared.found.FoundLoop.{FoundLoop}
 use Rattle.loop_rules.specs.Finding.{IsCountedLoop}
 use Rattle.loop_rules.specs.Sites.{int_at}
-use Rattle.source_bounds.specs.Notes.{Note, AtPlace, bound_in as bound_in_notes}
+use Rattle.bound_texts.specs.Sources.Notes.{Note, AtPlace, noted_bound as bound_in_notes}
 use Rattle.bound_rules.specs.Laws.{GraphsAreOne}
 use Rattle.bound_rules.specs.Bounding.{IsLeftWith, AreReducible, HaveLines}
 use Rattle.bound_causes.specs.Shapes.{IsShape}
@@ -35,7 +35,7 @@ use Rattle.bound_causes.specs.declared.shapes.Shape.TheVariants.{Irreducible, Re
 use Rattle.method_flow.specs.Graphs.{IsGraphOf}
 use Rattle.method_flow.specs.Keeping.{BoundOf}
 use Rattle.method_flow.specs.Regions.{IsWithin}
-use Rattle.method_sources.specs.Sources.{source_at}
+use Rattle.source_places.specs.Methods.Sources.{source_at}
 use Rattle.source_headers.specs.Headers.{found_at, header_at, said, said_of_line}
 use Rattle.source_headers.specs.Straying.{MayBeBounded, IsHeaderAt}
 use Rattle.source_headers.specs.Files.{AreMethodTexts, IsHeaderFile}

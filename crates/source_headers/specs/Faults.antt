@@ -1,6 +1,6 @@
 -- The refusals of the lines, as those of the text of bounds.
-use Rattle.source_bounds.specs.declared.SourceFault.{SourceFault}
-use Rattle.source_bounds.specs.declared.SourceFault.TheVariants as faults
+use Rattle.bound_texts.specs.declared.sources.SourceFault.{SourceFault}
+use Rattle.bound_texts.specs.declared.sources.SourceFault.TheVariants as faults
 use Rattle.source_headers.specs.declared.fault.HeaderFault.{HeaderFault}
 use Rattle.source_headers.specs.declared.fault.HeaderFault.TheVariants.{BadLine, TwiceLine, NoMemory}
 

@@ -4,14 +4,14 @@ use Rattle.std.specs.List.{concat}
 use Rattle.class_pool.specs.declared.class.ClassFile.{ClassFile}
 use Rattle.program_tables.specs.Resolved.{resolved}
 use Rattle.bytecode_model.specs.Program.{body_of}
-use Rattle.method_names.specs.Written.{written_name}
+use Rattle.name_laws.specs.Written.{written_name}
 use Rattle.loop_rules.specs.declared.found.FoundLoop.{FoundLoop}
 use Rattle.loop_rules.specs.Finding.{AreCountedLoops}
 use Rattle.loop_rules.specs.Sites.{int_at}
-use Rattle.int_sites.specs.Constants.{AreConstants}
-use Rattle.source_bounds.specs.Notes.{Note}
-use Rattle.source_bounds.specs.Grammar.{AreNotesRead, AreNotesRefused}
-use Rattle.source_bounds.specs.declared.SourceFault.TheVariants as faults
+use Rattle.program_sites.specs.Ints.Constants.{AreConstants}
+use Rattle.bound_texts.specs.Sources.Notes.{Note}
+use Rattle.bound_texts.specs.Sources.Grammar.{AreNotesRead, AreNotesRefused}
+use Rattle.bound_texts.specs.declared.sources.SourceFault.TheVariants as faults
 use Rattle.source_headers.specs.declared.fault.HeaderFault.{HeaderFault}
 use Rattle.source_headers.specs.declared.fault.HeaderFault.TheVariants.{BadLine, TwiceLine, Stray, NoMemory}
 use Rattle.source_headers.specs.Headers.{IsMethodText}

@@ -3,19 +3,19 @@ use Rattle.std.specs.Prelude.{◌≡◌, ◌↔◌, ◌⊎◌, ℕ, ◌<◌, ◌
 use Rattle.std.specs.List.{concat}
 use Rattle.class_pool.specs.declared.class.ClassFile.{ClassFile}
 use Rattle.program_tables.specs.Resolved.{resolved}
-use Rattle.method_names.specs.Written.{written_name}
+use Rattle.name_laws.specs.Written.{written_name}
 use Rattle.loop_rules.specs.declared.found.FoundLoop.{FoundLoop}
-use Rattle.source_bounds.specs.Notes.{Subject, AtLine, AtPlace, Note}
-use Rattle.method_sources.specs.declared.sources.MethodSource.{MethodSource}
+use Rattle.bound_texts.specs.Sources.Notes.{Subject, AtLine, AtPlace, Note}
+use Rattle.source_places.specs.declared.methods.sources.MethodSource.{MethodSource}
 use Rattle.source_headers.specs.declared.methods.MethodLoops.{MethodLoops}
 use Rattle.bound_causes.specs.declared.shapes.Shape.{Shape}
 use Rattle.bound_causes.specs.declared.shapes.Shape.TheVariants.{Irreducible, Reducible}
 use Rattle.source_headers.specs.declared.gathering.Gathered.{Gathered}
-use Rattle.method_sources.specs.Sources.{file_of, source_at, IsFileOf}
+use Rattle.source_places.specs.Methods.Sources.{file_of, source_at, IsFileOf}
 use Rattle.source_headers.specs.Headers.{IsMethodText}
 use Rattle.source_headers.specs.Straying.{HasSingleEntries, IsHeaderAt, IsWithinIrreducible}
 use Rattle.source_headers.specs.Known.{KnownSites, IsWith, LacksSite}
-use Rattle.method_sources.specs.Told.{source_by}
+use Rattle.source_places.specs.Methods.Told.{source_by}
 use Rattle.source_headers.specs.Told.{headed_places, lines_by}
 
 -- ---- what is of a method

@@ -3,13 +3,13 @@ use Rattle.std.specs.Prelude.{◌≡◌, ◌⊎◌, ℕ, ◌==◌, ◌&&◌, min
 use Rattle.class_pool.specs.declared.class.ClassFile.{ClassFile}
 use Rattle.bytecode_model.specs.Program.{Program}
 use Rattle.loop_rules.specs.declared.found.FoundLoop.{FoundLoop}
-use Rattle.source_bounds.specs.Notes.{AtLine, AtPlace, Note, bound_in}
-use Rattle.bound_cert.specs.CertLines.{node_text}
+use Rattle.bound_texts.specs.Sources.Notes.{AtLine, AtPlace, Note, noted_bound}
+use Rattle.certificates.specs.CertLines.{node_text}
 use Rattle.bound_causes.specs.Shapes.{IsShape}
 use Rattle.bound_causes.specs.declared.shapes.Shape.{Shape}
 use Rattle.bound_causes.specs.declared.shapes.Shape.TheVariants.{Irreducible, Reducible}
 use Rattle.answer_lines.specs.LoopLine.{loop_line}
-use Rattle.method_sources.specs.Sources.{source_at}
+use Rattle.source_places.specs.Methods.Sources.{source_at}
 
 -- ---- one header
 
@@ -28,11 +28,11 @@ lesser (Some a) (Some b) = Some (min a b)
 -- what the notes say of a line
 abbrev pub said_of_line : List Note → Option (List ℕ × ℕ) → Option ℕ
 said_of_line notes None = None
-said_of_line notes (Some s) = bound_in (AtLine s.0 s.1) notes
+said_of_line notes (Some s) = noted_bound (AtLine s.0 s.1) notes
 
 -- what they say of the loop of the method of this name: the lesser of what is said of its line and of its place
 abbrev pub said : List Note → (name : List ℕ) → Header → Option ℕ
-said notes name h = lesser (said_of_line notes h.source) (bound_in (AtPlace name h.place) notes)
+said notes name h = lesser (said_of_line notes h.source) (noted_bound (AtPlace name h.place) notes)
 
 -- the number that is written: the least of those that are found or said, so that a run which keeps what is said keeps it
 abbrev pub number_written : List Note → (name : List ℕ) → Header → Option ℕ

@@ -3,12 +3,12 @@ use Rattle.std.specs.Prelude.{◌≡◌, ℕ, ◌++◌, List, ◌∷◌, Contain
 use Rattle.std.specs.List.{concat}
 use Rattle.class_pool.specs.declared.class.ClassFile.{ClassFile}
 use Rattle.loop_rules.specs.declared.found.FoundLoop.{FoundLoop}
-use Rattle.source_bounds.specs.Notes.{Subject, Note}
+use Rattle.bound_texts.specs.Sources.Notes.{Subject, Note}
 use Rattle.source_headers.specs.declared.fault.HeaderFault.{HeaderFault}
 use Rattle.source_headers.specs.declared.fault.HeaderFault.TheVariants.{BadLine, TwiceLine, Stray, NoMemory}
 use Rattle.source_headers.specs.declared.gathering.Gathered.{Gathered}
 use Rattle.source_headers.specs.Files.{AreMethodTexts}
-use Rattle.method_names.specs.Written.{written_name}
+use Rattle.name_laws.specs.Written.{written_name}
 use Rattle.source_headers.specs.Straying.{IsStray, IsFirstStray, subject_text}
 use Rattle.source_headers.specs.Gathered.{IsLacking}
 

@@ -2,16 +2,16 @@
 use Rattle.std.specs.Prelude.{◌↔◌, ℕ, List, Contains, IsSome}
 use Rattle.class_pool.specs.declared.class.ClassFile.{ClassFile}
 use Rattle.program_tables.specs.Resolved.{resolved}
-use Rattle.method_names.specs.Written.{written_name}
+use Rattle.name_laws.specs.Written.{written_name}
 use Rattle.method_flow.specs.Keeping.{BoundOf, WalkKeeps}
 use Rattle.method_flow.specs.Regions.{IsWithin}
 use Rattle.loop_rules.specs.declared.found.FoundLoop.{FoundLoop}
-use Rattle.source_bounds.specs.Notes.{Note, AtPlace, bound_in}
+use Rattle.bound_texts.specs.Sources.Notes.{Note, AtPlace, noted_bound}
 use Rattle.bound_rules.specs.Bounding.{AreReducible, HaveLines}
 use Rattle.bound_causes.specs.Shapes.{IsShape}
 use Rattle.bound_causes.specs.declared.shapes.Shape.{Shape}
 use Rattle.bound_causes.specs.declared.shapes.Shape.TheVariants.{Irreducible, Reducible}
-use Rattle.method_sources.specs.Sources.{source_at}
+use Rattle.source_places.specs.Methods.Sources.{source_at}
 use Rattle.source_headers.specs.Headers.{found_at, header_at, said_of_line, number_written}
 use Rattle.source_headers.specs.Straying.{MayBeBounded}
 use Rattle.source_headers.specs.Files.{AreMethodTexts}
@@ -44,7 +44,7 @@ line_bound cs notes m p = said_of_line notes (source_at cs m p)
 
 -- what is said of the place itself
 abbrev pub place_bound : List ClassFile → List Note → BoundOf
-place_bound cs notes m p = bound_in (AtPlace (written_name cs m) p) notes
+place_bound cs notes m p = noted_bound (AtPlace (written_name cs m) p) notes
 
 -- the walk keeps what is found, and what is said of lines and of places
 pub record KeepsAll (cs : List ClassFile) (notes : List Note) (found : List FoundLoop) (m : ℕ) (ns : List ℕ) : Type 0 where

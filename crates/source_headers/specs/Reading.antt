@@ -2,10 +2,10 @@
 use Rattle.std.specs.Prelude.{◌≡◌, ℕ, ◌^◌, ◌<◌, List, Contains, Option, Some, IsTrue, option_map, flat_map}
 use Rattle.std.specs.List.{filter_map, AllByRecursion}
 use Rattle.ascii_text.specs.Line.{lines_of}
-use Rattle.loop_bounds.specs.Bounds.{LoopBound}
-use Rattle.loop_bounds.specs.Grammar.{Give}
-use Rattle.source_bounds.specs.Notes.{Note}
-use Rattle.method_names.specs.Written.{is_word}
+use Rattle.bound_texts.specs.Loops.Bounds.{LoopBound}
+use Rattle.bound_texts.specs.Loops.Grammar.{Give}
+use Rattle.bound_texts.specs.Sources.Notes.{Note}
+use Rattle.name_laws.specs.Written.{is_word}
 use Rattle.source_headers.specs.Headers.{Header, number_written, header_lines}
 
 -- the bound that is written for a header of the method of this name

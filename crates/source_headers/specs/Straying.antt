@@ -5,9 +5,9 @@ use Rattle.program_tables.specs.Resolved.{resolved}
 use Rattle.bytecode_model.specs.Program.{Program, body_of}
 use Rattle.bound_causes.specs.Headers.{AreHeaderPlaces}
 use Rattle.bound_rules.specs.Bounding.{IsLeftWith}
-use Rattle.report_rows.specs.Rows.{IsCodePlace}
-use Rattle.source_bounds.specs.Notes.{Subject, AtLine, AtPlace, Note}
-use Rattle.method_sources.specs.Sources.{IsFileOf, source_at}
+use Rattle.bound_report.specs.Contents.Rows.{IsCodePlace}
+use Rattle.bound_texts.specs.Sources.Notes.{Subject, AtLine, AtPlace, Note}
+use Rattle.source_places.specs.Methods.Sources.{IsFileOf, source_at}
 
 -- the method has code, and isn't the one that is run first
 abbrev pub MayBeBounded : Program → (method : ℕ) → Type 0

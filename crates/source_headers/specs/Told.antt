@@ -4,16 +4,16 @@ use Rattle.std.specs.List.{filter_map}
 use Rattle.class_pool.specs.declared.class.ClassFile.{ClassFile}
 use Rattle.program_tables.specs.Resolved.{resolved}
 use Rattle.bytecode_model.specs.Program.{Program}
-use Rattle.report_rows.specs.Rows.{IsCodePlace}
+use Rattle.bound_report.specs.Contents.Rows.{IsCodePlace}
 use Rattle.loop_rules.specs.declared.found.FoundLoop.{FoundLoop}
-use Rattle.source_bounds.specs.Notes.{Note}
+use Rattle.bound_texts.specs.Sources.Notes.{Note}
 use Rattle.bound_rules.specs.Bounding.{IsLeftWith}
 use Rattle.bound_causes.specs.Shapes.{IsShape}
 use Rattle.bound_causes.specs.declared.shapes.Shape.{Shape}
 use Rattle.bound_causes.specs.declared.shapes.Shape.TheVariants.{Irreducible, Reducible}
-use Rattle.method_sources.specs.declared.sources.MethodSource.{MethodSource}
-use Rattle.method_sources.specs.Sources.{source_at, IsFileOf}
-use Rattle.method_sources.specs.Told.{line_at, source_by}
+use Rattle.source_places.specs.declared.methods.sources.MethodSource.{MethodSource}
+use Rattle.source_places.specs.Methods.Sources.{source_at, IsFileOf}
+use Rattle.source_places.specs.Methods.Told.{line_at, source_by}
 use Rattle.source_headers.specs.declared.methods.MethodLoops.{MethodLoops}
 use Rattle.source_headers.specs.Straying.{IsHeaderAt}
 use Rattle.source_headers.specs.Headers.{Header, found_at, header_lines, irreducible_line}

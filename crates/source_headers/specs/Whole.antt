@@ -4,16 +4,16 @@ use Rattle.lists.specs.Lists.{onto}
 use Rattle.class_pool.specs.declared.class.ClassFile.{ClassFile}
 use Rattle.bytecode_model.specs.Program.{body_of}
 use Rattle.program_tables.specs.Resolved.{resolved}
-use Rattle.method_names.specs.Written.{written_name}
+use Rattle.name_laws.specs.Written.{written_name}
 use Rattle.program_tables.specs.Resolving.{IsResolved}
 use Rattle.method_flow.specs.Keeping.{BoundOf, WalkKeeps}
 use Rattle.method_flow.specs.Regions.{IsWithin}
-use Rattle.loop_bounds.specs.Bounds.{LoopBound, bound_in}
-use Rattle.loop_bounds.specs.Grammar.{IsRead}
+use Rattle.bound_texts.specs.Loops.Bounds.{LoopBound, bound_in}
+use Rattle.bound_texts.specs.Loops.Grammar.{IsRead}
 use Rattle.loop_rules.specs.declared.found.FoundLoop.{FoundLoop}
 use Rattle.loop_rules.specs.Finding.{IsCountedLoop}
 use Rattle.loop_rules.specs.Sites.{int_at}
-use Rattle.source_bounds.specs.Notes.{Note}
+use Rattle.bound_texts.specs.Sources.Notes.{Note}
 use Rattle.bound_rules.specs.Bounding.{AreReducible, HaveLines}
 use Rattle.bound_causes.specs.Shapes.{IsShape}
 use Rattle.bound_causes.specs.declared.shapes.Shape.{Shape}

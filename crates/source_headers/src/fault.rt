@@ -1,7 +1,7 @@
 //! Why no text of bounds is made.
 
 use base::NoMemory;
-use source_bounds::SourceFault;
+use bound_texts::sources::SourceFault;
 
 /// Why no text of bounds is made.
 #[derive(Drop)]

@@ -2,13 +2,13 @@
 ghost use Rattle.std.specs.Prelude.{◌≡◌, ℕ, List, length, Contains, Some, OnOk, IfOk, slice_get};
 ghost use Rattle.std.specs.List.Sorted.{IsStrictlyIncreasing};
 ghost use Rattle.method_flow.specs.Flow.{Coded, IsFlowOf};
-ghost use Rattle.method_names.specs.Written.{written_name};
+ghost use Rattle.name_laws.specs.Written.{written_name};
 ghost use Rattle.program_tables.specs.Resolved.{resolved};
 ghost use Rattle.loop_finder.specs.Headers.{AreMethodHeaders};
 ghost use Rattle.source_headers.specs.Found.{AreRising};
 ghost use Rattle.source_headers.specs.Gathered.{AddsLines, AddsMethod, AddsPlaces, AreFiles, AreGathered};
 ghost use Rattle.source_headers.specs.Known.{IsWith};
-ghost use Rattle.method_sources.specs.Sources.{file_of};
+ghost use Rattle.source_places.specs.Methods.Sources.{file_of};
 ghost use Rattle.source_headers.specs.Told.{headed_lines, headed_places};
 
 use crate::found::from_place;
@@ -16,13 +16,13 @@ use crate::known::Known;
 use crate::methods::{Method, MethodLoops, loops_of, put_method};
 use base::NoMemory;
 use bound_causes::Shape;
+use bound_texts::sources::SourceBounds;
 use class_pool::ClassFile;
 use loop_finder::ProgramLoops;
 use loop_rules::FoundLoop;
 use method_flow::FlowProgram;
-use method_sources::{all_lines, file_of, lines_at};
 use resolved_program::Program;
-use source_bounds::SourceBounds;
+use source_places::methods::{all_lines, file_of, lines_at};
 use std::alloc::Global;
 
 /// The text of methods, the methods whose loops have one entry each with the places where they head loops, and the files of the

@@ -4,10 +4,10 @@ ghost use Rattle.source_headers.specs.Reading.{HeadersAreRead};
 ghost use Rattle.source_headers.specs.Whole.{HeaderFilesAreRead, FilesBoundHeaders, FileBoundsAreFoundOrSaid, KeptNotesKeepTheFile, RootsHaveLines};
 
 use bound_rules::laws::graphs_are_one;
+use bound_texts::loops::laws::gives_one;
 use class_rules::laws::methods_have_code;
 use compact_walks::laws::{ends_are_one, graphs_are_moved, parts_are_sound};
-use loop_bounds::laws::gives_one;
-use method_names::laws::{written_are_words, written_names_are_one};
+use name_laws::laws::{written_are_words, written_names_are_one};
 use program_tables::laws::methods_stand_by_number;
 
 /// Each loop that may run while a method does is bounded by what is written, exactly where no remark stands in place of numbers.

@@ -7,9 +7,9 @@ ghost use Rattle.program_tables.specs.Resolved.{resolved};
 ghost use Rattle.bound_causes.specs.Shapes.{IsCompactShape, IsShape};
 ghost use Rattle.loop_finder.specs.Headers.{AreHeadersIn, AreHeadersOf};
 ghost use Rattle.source_headers.specs.Found.{AreRising};
-ghost use Rattle.method_sources.specs.Sources.{source_at, IsFileOf};
-ghost use Rattle.method_sources.specs.Told.{source_by};
-ghost use Rattle.report_rows.specs.Rows.{IsCodePlace};
+ghost use Rattle.source_places.specs.Methods.Sources.{source_at, IsFileOf};
+ghost use Rattle.source_places.specs.Methods.Told.{source_by};
+ghost use Rattle.bound_report.specs.Contents.Rows.{IsCodePlace};
 ghost use Rattle.source_headers.specs.Told.{headed_places, has_no_loops, headers_by, lines_by, IsToldOf, IsToldPlace};
 
 use crate::found::{from_place, number_at};
@@ -18,13 +18,13 @@ use base::NoMemory;
 use bound_causes::Shape;
 use bound_causes::laws::{compact_keeps_loops, method_graphs_are_reached};
 use bound_rules::laws::{graphs_are_one, headers_are_instructions};
+use bound_texts::sources::SourceBounds;
 use compact_walks::laws::{ends_are_one, graphs_are_moved, parts_are_sound};
 use loop_finder::LoopHeaders;
 use loop_rules::FoundLoop;
-use method_sources::{MethodSource, source_at, source_of};
 use program_tables::laws::methods_stand_by_number;
 use resolved_program::Program;
-use source_bounds::SourceBounds;
+use source_places::methods::{MethodSource, source_at, source_of};
 use std::alloc::Global;
 
 /// The shape of a method's loops, and the lines of its source where it has some.

@@ -1,11 +1,11 @@
 //! The bounds that lines give.
 ghost use Rattle.std.specs.Prelude.{◌≤◌, length, IfOk, IfErr};
 ghost use Rattle.base.specs.Sizes.{longest_file};
-ghost use Rattle.source_bounds.specs.Grammar.{AreNotesRead};
+ghost use Rattle.bound_texts.specs.Sources.Grammar.{AreNotesRead};
 ghost use Rattle.source_headers.specs.Files.{IsLinesFault};
 
 use crate::fault::HeaderFault;
-use source_bounds::{SourceBounds, read_source_bounds};
+use bound_texts::sources::{SourceBounds, read_source_bounds};
 use std::alloc::Global;
 
 /// The bounds that lines give, of lines of sources and of places of methods.

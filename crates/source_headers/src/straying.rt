@@ -1,6 +1,6 @@
 //! Bounds that are said of what heads no loop.
 ghost use Rattle.std.specs.Prelude.{◌≡◌, ◌↔◌, ◌++◌, ◌∷◌, IsTrue, IfOk, IfErr, OnOk, decimal};
-ghost use Rattle.source_bounds.specs.Meaning.{subject_seen};
+ghost use Rattle.bound_texts.specs.Sources.Meaning.{subject_seen};
 ghost use Rattle.source_headers.specs.Gathered.{IsLacking};
 ghost use Rattle.source_headers.specs.Lacking.{AreUsedBy, IsLackingFault, NamesSubject};
 ghost use Rattle.source_headers.specs.Straying.{subject_text};
@@ -9,7 +9,7 @@ use crate::fault::HeaderFault;
 use crate::gathering::Gathered;
 use ascii_text::put_u64;
 use base::NoMemory;
-use source_bounds::{SourceBounds, SubjectRef};
+use bound_texts::sources::{SourceBounds, SubjectRef};
 use std::alloc::Global;
 
 /// Whether a bound is said of a file or a method of the program that has no loop there.

@@ -1,13 +1,13 @@
 //! The lines of headers.
 ghost use Rattle.std.specs.Prelude.{◌≡◌, ◌++◌, OnOk, flat_map, option_map};
-ghost use Rattle.source_bounds.specs.Notes.{AtPlace, bound_in};
+ghost use Rattle.bound_texts.specs.Sources.Notes.{AtPlace, noted_bound};
 ghost use Rattle.source_headers.specs.Headers.{header_lines, irreducible_line, number_line, source_line, spaced, wanting_line};
 ghost use Rattle.source_headers.specs.Headers.{lesser, said_of_line};
 
 use answer_lines::put_loop_line;
 use ascii_text::put_u64;
 use base::NoMemory;
-use source_bounds::SourceBounds;
+use bound_texts::sources::SourceBounds;
 
 /// The lesser of two numbers, or the one that there is.
 fn lesser(a: Option<u32>, b: Option<u32>) -> Option<u32>

@@ -2,9 +2,9 @@
 ghost use Rattle.std.specs.Prelude.{◌≡◌, ◌≤◌, ℕ, List, length, Some, IfOk, IfErr, slice_get};
 ghost use Rattle.base.specs.Sizes.{longest_file};
 ghost use Rattle.method_flow.specs.Flow.{Coded, IsFlowOf};
-ghost use Rattle.method_names.specs.Written.{written_name};
+ghost use Rattle.name_laws.specs.Written.{written_name};
 ghost use Rattle.program_tables.specs.Resolved.{resolved};
-ghost use Rattle.source_bounds.specs.Grammar.{AreNotesRead};
+ghost use Rattle.bound_texts.specs.Sources.Grammar.{AreNotesRead};
 ghost use Rattle.loop_finder.specs.Headers.{AreMethodHeaders};
 ghost use Rattle.source_headers.specs.Files.{IsHeaderFile, IsHeaderFault};
 ghost use Rattle.source_headers.specs.Found.{AreRising};
@@ -14,11 +14,11 @@ use crate::fault::HeaderFault;
 use crate::gathering::{Gathered, gather};
 use crate::notes::notes_in;
 use crate::straying::check_notes;
-use int_sites::int_sites;
+use bound_texts::sources::SourceBounds;
 use loop_finder::{ProgramLoops, find_all};
 use method_flow::FlowProgram;
+use program_sites::ints::int_sites;
 use resolved_program::Program;
-use source_bounds::SourceBounds;
 use std::alloc::Global;
 
 /// The text where no bound strays.

@@ -4,9 +4,9 @@ use Rattle.std.specs.Prelude.{Ok, slice_get}
 use Rattle.outside.specs.Outside.{IsWhole}
 use Rattle.image_file.specs.Linked as file
 use Rattle.jopizer.specs.Linked.{image_of}
-use Rattle.loop_bounds.specs.Grammar.{IsRead}
+use Rattle.bound_texts.specs.Loops.Grammar.{IsRead}
 use Rattle.ascii_text.specs.Line.{lines_of as text_lines}
-use Rattle.bound_cert.specs.Texts.{AreLinesOf}
+use Rattle.certificates.specs.Texts.{AreLinesOf}
 use Rattle.command_line.specs.declared.command.Command.TheVariants.{Check, Run}
 use Rattle.command_line.specs.Command.{command_of}
 use Rattle.commands.specs.declared.outcome.Outcome.{Outcome}

@@ -1,10 +1,10 @@
 -- A certificate that is checked, and a run of the same image, as two calls answer.
 use Rattle.std.specs.Prelude.{◌≡◌, ℕ, List, [], ◌∷◌, Some, Option, slice_get, codes, MatchOption, ◌≤◌}
-use Rattle.memory_timing.specs.declared.Config.{Config}
+use Rattle.machine_memory.specs.declared.timing.Config.{Config}
 use Rattle.image_file.specs.Linked as file
 use Rattle.ascii_text.specs.Line.{lines_of as text_lines}
-use Rattle.bound_cert.specs.Certificate.{Certificate}
-use Rattle.bound_cert.specs.Texts.{AreLinesOf}
+use Rattle.certificates.specs.Certificate.{Certificate}
+use Rattle.certificates.specs.Texts.{AreLinesOf}
 use Rattle.commands.specs.declared.outcome.Outcome.{Outcome}
 use Rattle.commands.specs.declared.outcome.Outcome.TheVariants.{Holds}
 use Rattle.commands.specs.declared.show.Show.TheVariants.{Output}

@@ -2,7 +2,7 @@
 ghost use Rattle.std.specs.Prelude.{◌<◌, length};
 
 use call_regions::{CallFault, order};
-use flow_program::find_method;
+use flow_table::find_method;
 use method_flow::FlowProgram;
 use std::alloc::{AllocError, Global};
 

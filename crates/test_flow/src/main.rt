@@ -17,7 +17,7 @@ mod regions;
 
 use bytecode_verifier::Verified;
 use calls::order_text;
-use flow_program::flow_of;
+use flow_table::flow_of;
 use graphs::show_methods;
 use program::verified;
 use std::io;

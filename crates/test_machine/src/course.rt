@@ -3,7 +3,7 @@
 use crate::device::Keeper;
 use crate::frames::{Layout, agrees, is_word};
 use jop_core::{Config, Halt, Machine, Tick, can_start, places};
-use microcode_rom::RAISE;
+use microcode::RAISE;
 use std::alloc::Global;
 use test_rows::{RowFault, numbers};
 

@@ -6,7 +6,7 @@ use jop_core::{
     BareFault, Config, DeviceFault, Halt, Machine, Tick, can_start, can_start_bare, places,
     read_bare,
 };
-use microcode_rom::entry;
+use microcode::entry;
 use std::alloc::Global;
 use std::io;
 use test_rows::{RowFault, numbers};

@@ -1,8 +1,8 @@
 //! The on-chip words, the memory behind its port and the method cache.
 
-use memory_timing::{Config, Memory};
+use machine_memory::stack::StackCache;
+use machine_memory::timing::{Config, Memory};
 use method_cache::MethodCache;
-use stack_cache::StackCache;
 use std::io;
 use test_rows::RowFault;
 

@@ -2,7 +2,7 @@
 ghost use Rattle.std.specs.Prelude.{ℕ, ◌≤◌, length};
 ghost use Rattle.base.specs.Sizes.{longest_file};
 
-use loop_bounds::{Bounds, BoundsFault, read_bounds};
+use bound_texts::loops::{Bounds, BoundsFault, read_bounds};
 use std::alloc::AllocError;
 use std::io;
 

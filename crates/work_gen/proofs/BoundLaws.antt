@@ -7,10 +7,10 @@ use Rattle.std.proofs.lemmas.List.{append_cancel_right, length-append}
 use lib.Pointwise.{pointwise, bytes_decides}
 use Rattle.ascii_text.specs.Line.{lines_of}
 use Rattle.lists.specs.Members.{tails}
-use Rattle.loop_bounds.specs.declared.BoundsFault.{BoundsFault}
-use Rattle.loop_bounds.specs.Bounds.{LoopBound, bound_in, AreOfDifferentLoops}
-use Rattle.loop_bounds.specs.Grammar.{Give}
-use Rattle.loop_bounds.specs.Laws.{GivesOne, ReadIsNotRefused}
+use Rattle.bound_texts.specs.declared.loops.BoundsFault.{BoundsFault}
+use Rattle.bound_texts.specs.Loops.Bounds.{LoopBound, bound_in, AreOfDifferentLoops}
+use Rattle.bound_texts.specs.Loops.Grammar.{Give}
+use Rattle.bound_texts.specs.Loops.Laws.{GivesOne, ReadIsNotRefused}
 use Rattle.work_gen.specs.Work.{adder_name, adder_descriptor, turns_of, bound_line, bounds_text}
 use Rattle.work_gen.specs.Bounds.{adder_text, adder_bound, adder_bounds}
 use Rattle.work_gen.specs.Laws.{BoundsAreRead, OnlyTheseAreRead, EachLoopIsBounded, TextsAreShort}

@@ -11,8 +11,8 @@ use Rattle.std.proofs.lemmas.List.Elements.{All-from_recursion}
 use Rattle.std.proofs.lemmas.List.Splits.{slice_split_none, slice_split_at, length-slice_split}
 use Rattle.ascii_text.specs.Line.{lines_of, without_empty_last}
 use Rattle.ascii_text.proofs.NumberLemmas.{HasOneSpelling-decimal}
-use Rattle.loop_bounds.specs.Grammar.{IsLoopLine, SaysLoopBound}
-use Rattle.loop_bounds.specs.Lines.{IsNumber}
+use Rattle.bound_texts.specs.Loops.Grammar.{IsLoopLine, SaysLoopBound}
+use Rattle.bound_texts.specs.Loops.Lines.{IsNumber}
 use Rattle.work_gen.specs.Work.{adder_name, turns_of, bound_line}
 use Rattle.work_gen.specs.Bounds.{adder_text, adder_bound}
 use Rattle.work_gen.proofs.Decimals.{decimal_fails}

@@ -1,7 +1,7 @@
 -- The bounds of the class's loops, as they are read.
 use Rattle.std.specs.Prelude.{ℕ, List, ◌++◌, map, codes}
 use Rattle.std.specs.List.{range_with_len}
-use Rattle.loop_bounds.specs.Bounds.{LoopBound}
+use Rattle.bound_texts.specs.Loops.Bounds.{LoopBound}
 use Rattle.work_gen.specs.Work.{adder_name, adder_descriptor, turns_of}
 
 -- the name of an adder behind its class and before its descriptor

@@ -4,10 +4,10 @@ use Rattle.base.specs.Sizes.{longest_file}
 use Rattle.class_rules.specs.Grammar.{IsClass}
 use Rattle.class_making.specs.Right.{IsRightPlan}
 use Rattle.class_making.specs.Laws.{HasBytes, SaysPlan}
-use Rattle.loop_bounds.specs.declared.BoundsFault.{BoundsFault}
-use Rattle.loop_bounds.specs.declared.BoundsFault.TheVariants.{NoMemory}
-use Rattle.loop_bounds.specs.Bounds.{LoopBound, bound_in}
-use Rattle.loop_bounds.specs.Grammar.{IsRead, AreBoundsRefused}
+use Rattle.bound_texts.specs.declared.loops.BoundsFault.{BoundsFault}
+use Rattle.bound_texts.specs.declared.loops.BoundsFault.TheVariants.{NoMemory}
+use Rattle.bound_texts.specs.Loops.Bounds.{LoopBound, bound_in}
+use Rattle.bound_texts.specs.Loops.Grammar.{IsRead, AreBoundsRefused}
 use Rattle.work_gen.specs.Work.{turns_of, work_plan, work, bounds_text}
 use Rattle.work_gen.specs.Bounds.{adder_text, adder_bounds}
 

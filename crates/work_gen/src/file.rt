@@ -7,8 +7,8 @@ ghost use Rattle.work_gen.specs.Work.{work};
 use crate::class::make;
 use crate::laws::work_is_a_class;
 use base::NoMemory;
+use class_file::writing::write_class;
 use class_pool::ClassFile;
-use class_write::write_class;
 use std::alloc::Global;
 
 /// The bytes of a class file.

@@ -2,8 +2,8 @@
 ghost use Rattle.work_gen.specs.Laws.{WorkIsRight, WorkIsAClass, BoundsAreRead, OnlyTheseAreRead, EachLoopIsBounded, TextsAreShort};
 ghost use Rattle.work_gen.specs.Rows.{WorkRows};
 
+use bound_texts::loops::laws::{gives_one, read_is_not_refused};
 use class_making::laws::{classes_say_plans, items_are_few, plans_are_classes, plans_have_bytes};
-use loop_bounds::laws::{gives_one, read_is_not_refused};
 
 /// The plan says what a class file may say.
 pub fn work_is_right()

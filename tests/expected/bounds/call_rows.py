@@ -97,7 +97,7 @@ def bounds(table, check):
 
 
 def certificates(table, check, bare):
-    """texts of certificates: one line that is refused of each kind (crates/test_certs has them all), and images that have no methods"""
+    """texts of certificates: one line that is refused of each kind (crates/test_readers has them all), and images that have no methods"""
     for text in ('JOPC 3\nroot 5\nbound never\n', 'JOPC 1\nsection inside 5\n', 'JOPC 1\nroot 5\nsection loops 5\nbound never\n', 'JOPC 1\nroot 5\n', 'JOPC 1\nroot 5\nbound never\n\n', '', '\n',
                  'JOPC 1\nroot 5\nnode 0 1\nbound 1\n', 'JOPC 2\nroot 5\nsection inside 5\nregion 0 1 0\nbound 1\n', 'JOPC 2\nroot 5\nsection alone 5\nsection loops 5\nbound 1\n',
                  'JOPC 1\nroot 5\nsection inside 5\nnode 0 1\nnode 0 1\nbound 1\n', 'JOPC 1\nroot 5\nsection inside 5\nnode 0 -0\nbound 1\n', 'JOPC 1\nroot 5\nsection inside 5\nnode 0 18446744073709551616\n',

@@ -2,13 +2,13 @@ use Rattle.std.proofs.Common.{ℕ, List, Some, None, sym, subst}
 use Rattle.std.specs.Prelude.{IfOk, IfErr, IfSome, IfNone}
 use Rattle.std.proofs.lemmas.Result.{err_from_is_err_and}
 use Rattle.node_costs.specs.Costs.{bounds_of}
-use Rattle.wcet.specs.declared.ending.MethodBound.TheVariants.{Printed}
-use Rattle.wcet.specs.Ending.{IsMethodBound}
-use Rattle.wcet.specs.Known.{BoundSetting, bounds_in, ForEach}
-use Rattle.wcet.specs.Methods.{AreMethodsFound}
-use Rattle.wcet.specs.Ready.{AreReady, IsReadyOrder, IsSizeCause, IsWantOfMemory}
-use Rattle.wcet.proofs.Certifying.{want_is_cause}
-use Rattle.wcet.proofs.Ordering.{are_ready}
+use Rattle.bound_finder.specs.declared.ending.MethodBound.TheVariants.{Printed}
+use Rattle.bound_finder.specs.Ending.{IsMethodBound}
+use Rattle.bound_finder.specs.Known.{BoundSetting, bounds_in, ForEach}
+use Rattle.bound_finder.specs.Methods.{AreMethodsFound}
+use Rattle.bound_finder.specs.Ready.{AreReady, IsReadyOrder, IsSizeCause, IsWantOfMemory}
+use Rattle.bound_finder.proofs.Certifying.{want_is_cause}
+use Rattle.bound_finder.proofs.Ordering.{are_ready}
 use Rattle.bound_report.specs.Report.{IsReportOf}
 use Rattle.bound_report.specs.Settled.{AreReadyIn}
 use Rattle.bound_report.proofs.report.Goals as goal

@@ -2,7 +2,7 @@
 ghost use Rattle.std.specs.Prelude.{◌≡◌, ◌<◌, length, sum_by};
 ghost use Rattle.bytecode_model.specs.State.{State};
 ghost use Rattle.bytecode_model.specs.Sizes.{value_words};
-ghost use Rattle.machine_frames.specs.Shows.{IsRaising, EachRaising};
+ghost use Rattle.machine_stands.specs.ShownFrames.Shows.{IsRaising, EachRaising};
 ghost use Rattle.boundary.specs.Answers.{HasFrames};
 ghost use Rattle.boundary.specs.Setting.{Setting};
 ghost use Rattle.boundary.specs.Session.{IsStateOf, EachShownState, EachShownTop};
@@ -13,7 +13,9 @@ use crate::running::{Running, is_raise};
 use bytecode_typing::fitting_states_are_well_formed;
 use image_facts::CodedMethod;
 use jop_core::Machine;
-use machine_frames::{frame_count, operand_words, raising_pc, running_pc, top_method};
+use machine_stands::shown_frames::{
+    frame_count, operand_words, raising_pc, running_pc, top_method,
+};
 
 impl<'a, const N: usize> Running<'a, N> {
     /// The number of the method whose frame is on top.

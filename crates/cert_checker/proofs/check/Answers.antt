@@ -1,7 +1,7 @@
 use Rattle.std.proofs.Common.{List, sym, subst, rules, All}
 use Rattle.std.specs.Result.{IfErr}
 use Rattle.std.proofs.lemmas.Result.{IfErr-weaker}
-use Rattle.bound_cert.specs.declared.cert.CertSection.{CertSection}
+use Rattle.certificates.specs.declared.cert.CertSection.{CertSection}
 use Rattle.cert_checker.specs.Section.{IsUsual, SomeFailFor, LastFailsFor}
 use Rattle.cert_checker.proofs.Usual.{all_usual}
 use Rattle.cert_checker.proofs.Concluding.{sections_refuse, last_refuses, all_meet}

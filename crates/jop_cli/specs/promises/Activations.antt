@@ -2,7 +2,7 @@
 use Rattle.std.specs.Prelude.{ℕ, Option, ◌≤◌, MatchOption, ◌≡◌}
 use Rattle.method_flow.specs.Keeping.{BoundOf}
 use Rattle.activations.specs.Activations.{IsActivation, cycles_of}
-use Rattle.bound_sound.specs.Loads.{ActivationsLoadOnce, StaysLoadOnce, LoadsAreMisses}
+use Rattle.bound_laws.specs.Soundness.Loads.{ActivationsLoadOnce, StaysLoadOnce, LoadsAreMisses}
 use Rattle.jop_cli.specs.promises.Words.{Settings, Parts, Stage, BoundsActivations, resolved, timing_of, Show, linked_setting, Call, RanLinked, Keeps}
 use Rattle.jop_cli.specs.promises.Words.{text_of_word, bounds_of}
 use Rattle.jop_cli.specs.promises.Runs.{IsBoundary, RanLinkedFile}

@@ -2,9 +2,9 @@
 use Rattle.std.specs.Prelude.{◌≡◌, ℕ, List, [], ◌∷◌, Ok, ◌⊎◌, Some, ◌+◌, IsSome}
 use Rattle.image_file.specs.Linked as file
 use Rattle.command_line.specs.declared.command.Command.TheVariants.{Bound}
-use Rattle.method_names.specs.Written.{written_name}
-use Rattle.bound_cert.specs.Certificate.{Certificate, IsInGrammar}
-use Rattle.bound_cert.specs.Texts.{text_of}
+use Rattle.name_laws.specs.Written.{written_name}
+use Rattle.certificates.specs.Certificate.{Certificate, IsInGrammar}
+use Rattle.certificates.specs.Texts.{text_of}
 use Rattle.bound_rules.specs.declared.faults.BoundRefusal.{BoundRefusal}
 use Rattle.bound_rules.specs.declared.faults.BoundRefusal.TheVariants.{NoMemory as Lacking}
 use Rattle.bound_rules.specs.Bounding.{IsCause}

@@ -3,10 +3,10 @@ use Rattle.std.specs.Prelude.{◌≡◌, ℕ, List, [], ◌∷◌, Ok, ◌⊎◌
 use Rattle.std.specs.List.{concat}
 use Rattle.image_file.specs.Linked as file
 use Rattle.command_line.specs.declared.command.Command.TheVariants.{Check}
-use Rattle.method_names.specs.Written.{written_name}
+use Rattle.name_laws.specs.Written.{written_name}
 use Rattle.ascii_text.specs.Line.{lines_of as text_lines}
-use Rattle.bound_cert.specs.Certificate.{Certificate}
-use Rattle.bound_cert.specs.Texts.{AreLinesOf}
+use Rattle.certificates.specs.Certificate.{Certificate}
+use Rattle.certificates.specs.Texts.{AreLinesOf}
 use Rattle.bound_rules.specs.declared.faults.CheckFault.{CheckFault}
 use Rattle.bound_rules.specs.Conditions.{MeetsConditions}
 use Rattle.bound_rules.specs.Refused.{IsCertRefused}
@@ -14,7 +14,7 @@ use Rattle.answer_lines.specs.AnalysisLines.{held_parts, fault_parts}
 use Rattle.analysis_commands.specs.Checking.{fault_name}
 use Rattle.commands.specs.declared.outcome.Refusal.TheVariants.{Check as NotChecked}
 use Rattle.commands.specs.declared.outcome.Outcome.TheVariants.{Holds}
-use Rattle.bound_cert.specs.CertLines.{IsBoundValue}
+use Rattle.certificates.specs.CertLines.{IsBoundValue}
 use Rattle.jop_cli.specs.promises.Words.{Settings, command_of, Parts, IsLinked, image_of, LoopBound, IsRead, CodesFit, Call, OperandsAreTold, resolved}
 use Rattle.jop_cli.specs.promises.Words.{timing_of, bounds_of, NothingFailed, LacksMemory, IsSetting, BoundsActivations, IsResolved, linked_setting}
 use Rattle.jop_cli.specs.promises.Words.{text_of_word, Grew, AreFiles, Refused, ClassFile, body_of}

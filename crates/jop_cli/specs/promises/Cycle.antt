@@ -2,10 +2,10 @@
 use Rattle.std.specs.Prelude.{◌≡◌, ℕ, List, [], Ok, ◌≤◌, true, length, Some, slice_get}
 use Rattle.command_line.specs.declared.command.Command.TheVariants.{Cycle as ToCycle}
 use Rattle.run_devices.specs.Lent.{Lent, wired}
-use Rattle.activation_watch.specs.declared.activation.Activation.{Activation}
-use Rattle.activation_watch.specs.Watched.{is_slot, cycles_of as used_by}
+use Rattle.run_follower.specs.declared.watch.activation.Activation.{Activation}
+use Rattle.run_follower.specs.Watch.Watched.{is_slot, cycles_of as used_by}
 use Rattle.activation_laws.specs.Seen.{IsActivationIn}
-use Rattle.analysis_commands.specs.Plan.{IsPlan, IsExecutive}
+use Rattle.slot_plans.specs.Plan.{IsPlan, IsExecutive}
 use Rattle.commands.specs.Following.{run_stages}
 use Rattle.commands.specs.LinkedFile.{IsUnheld}
 use Rattle.commands.specs.Executive.{IsReadied}

@@ -6,10 +6,10 @@ use Rattle.bytecode_model.specs.State.{Frame}
 use Rattle.bytecode_model.specs.Program.{Program}
 use Rattle.loop_rules.specs.declared.found.FoundLoop.{FoundLoop}
 use Rattle.loop_rules.specs.Sites.{int_at}
-use Rattle.int_sites.specs.Constants.{AreConstants}
-use Rattle.further_rules.specs.Known.{Known}
-use Rattle.further_rules.specs.Arrays.{IsKnownBy}
-use Rattle.counted_activations.specs.Others.{CountsIn, CountsFurtherIn, KeepsOthers, KeepsFurtherOthers}
+use Rattle.program_sites.specs.Ints.Constants.{AreConstants}
+use Rattle.loop_rules.specs.Further.Known.{Known}
+use Rattle.loop_rules.specs.Further.Arrays.{IsKnownBy}
+use Rattle.activation_laws.specs.Counted.Others.{CountsIn, CountsFurtherIn, KeepsOthers, KeepsFurtherOthers}
 use Rattle.analysis_commands.specs.Loops.{AreLoopLines, AreFurtherLines}
 use Rattle.commands.specs.declared.show.Show.TheVariants as shows
 use Rattle.method_runs.specs.Runs.{Walks, boot_walks}

@@ -3,7 +3,7 @@ use Rattle.std.specs.Prelude.{ℕ, List, ◌∷◌, ◌++◌, ◌≡◌, [], Vec
 use Rattle.std.specs.declared.alloc.Global.{Global}
 use Rattle.command_line.specs.declared.command.Command.TheVariants.{Plan as ToPlan}
 use Rattle.slot_table.specs.Grammar as tables
-use Rattle.analysis_commands.specs.Plan.{IsExecutive, IsPlan}
+use Rattle.slot_plans.specs.Plan.{IsExecutive, IsPlan}
 use Rattle.commands.specs.declared.outcome.Answer.TheVariants.{Text, Ends}
 use Rattle.commands.specs.Executive.{executive_class, with_executive, IsReadied}
 use Rattle.jop_cli.specs.promises.Words.{LinkRefusal, Slot, RefusesFiles, Call, OperandsAreTold, Parts, resolved, named_or_number, IsLinkedWith, Settings}

@@ -3,7 +3,7 @@ use Rattle.std.specs.Prelude.{◌≡◌, ℕ, ◌≤◌, List, [], ◌∷◌, le
 use Rattle.image_file.specs.Linked as file
 use Rattle.command_line.specs.declared.command.Command.TheVariants.{Profile as ToProfile}
 use Rattle.run_devices.specs.Lent.{Lent, wired}
-use Rattle.activation_watch.specs.declared.profile.Profile.{Profile}
+use Rattle.run_follower.specs.declared.watch.profile.Profile.{Profile}
 use Rattle.activation_laws.specs.Profiled.{EachKeeps, ProfileIsWithin}
 use Rattle.method_bounds.specs.declared.answer.BoundAnswer.{BoundAnswer}
 use Rattle.method_bounds.specs.Profiles.{profile_lines}

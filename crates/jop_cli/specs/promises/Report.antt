@@ -3,11 +3,11 @@ use Rattle.std.specs.Prelude.{◌≡◌, ℕ, ◌+◌, List, Ok}
 use Rattle.command_line.specs.declared.command.Command.TheVariants.{Report as ToReport}
 use Rattle.method_flow.specs.Keeping.{BoundOf}
 use Rattle.method_flow.specs.declared.timing.Timing.{Timing}
-use Rattle.report_rows.specs.declared.rows.ReportRow.{ReportRow}
-use Rattle.report_rows.specs.Rows.{cycles_of as rows_cycles}
+use Rattle.bound_report.specs.declared.contents.rows.ReportRow.{ReportRow}
+use Rattle.bound_report.specs.Contents.Rows.{cycles_of as rows_cycles}
 use Rattle.bound_report.specs.declared.reports.Report.{Report}
 use Rattle.bound_report.specs.Report.{IsReportOf}
-use Rattle.method_sources.specs.Sources.{source_at}
+use Rattle.source_places.specs.Methods.Sources.{source_at}
 use Rattle.report_lines.specs.Entries.{AreEntries}
 use Rattle.commands.specs.Reporting.{reported_bound, SaysReport}
 use Rattle.jop_cli.specs.promises.Words.{ClassFile, resolved, Grew, AreFiles, BoundsActivations, Settings, Parts, timing_of, bounds_of, text_of_word, Call}

@@ -1,7 +1,7 @@
 -- What a call of `run` or of `trace` shows that answers how the run ended, and the boundaries of such a run.
 use Rattle.std.specs.Prelude.{◌≡◌, ℕ, Some, List, ◌⊎◌, Ok, ◌<◌}
 use Rattle.image_file.specs.Linked as file
-use Rattle.memory_timing.specs.declared.Config.{Config}
+use Rattle.machine_memory.specs.declared.timing.Config.{Config}
 use Rattle.bytecode_model.specs.State.{State}
 use Rattle.bytecode_model.specs.Steps.{boot_state}
 use Rattle.boundary.specs.Runs.{Goes, input_of}

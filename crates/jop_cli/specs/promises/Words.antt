@@ -17,8 +17,8 @@ pub use Rattle.slot_table.specs.declared.slot.Slot.{Slot}
 pub use Rattle.commands.specs.declared.outcome.Ending.{Ending}
 pub use Rattle.program_tables.specs.Resolved.{resolved}
 pub use Rattle.program_tables.specs.Resolving.{IsResolved}
-pub use Rattle.loop_bounds.specs.Bounds.{LoopBound}
-pub use Rattle.loop_bounds.specs.Grammar.{IsRead}
+pub use Rattle.bound_texts.specs.Loops.Bounds.{LoopBound}
+pub use Rattle.bound_texts.specs.Loops.Grammar.{IsRead}
 pub use Rattle.analysis_commands.specs.Analysis.{bounds_of, named_or_number, timing_of}
 pub use Rattle.commands.specs.declared.outcome.Outcome.TheVariants.{Refused, Written}
 pub use Rattle.commands.specs.declared.show.Show.{Show}

@@ -7,7 +7,7 @@ ghost use Rattle.jop_core.specs.Steps.{meaning};
 use crate::machine::Machine;
 use crate::steps::Step;
 use device_traits::Seen;
-use microcode_rom::entry;
+use microcode::entry;
 
 impl<const N: usize> Machine<N> {
     pub(super) fn advance(&mut self)

@@ -8,7 +8,7 @@ use crate::machine::Machine;
 use crate::places::STACK;
 use crate::steps::Action;
 use base::{branch_holds, number, shift_right, sign_extend8, sign_extend16, signed_less};
-use micro_isa::Operation;
+use microcode::isa::Operation;
 
 impl<const N: usize> Machine<N> {
     /// Pops, and sets A: what an operation on B and A does with its result.

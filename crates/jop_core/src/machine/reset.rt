@@ -1,6 +1,6 @@
 //! Machines at reset.
 ghost use Rattle.std.specs.Prelude.{◌≡◌, ◌↔◌, ◌<◌, ◌≤◌, length, IfOk, IsTrue, slice_index};
-ghost use Rattle.stack_cache.specs.Size.{IsSize};
+ghost use Rattle.machine_memory.specs.Stack.Size.{IsSize};
 ghost use Rattle.method_cache.specs.Contents.{empty, can_load};
 ghost use Rattle.jop_core.specs.Reset.{reset_of, first_byte, bare_reset, linked_reset, CanStart, CanStartBare, word_at_bytes, words_of_bytes};
 ghost use Rattle.jop_core.specs.Starts.{starts, IsLinkedBoot, first_words};
@@ -12,10 +12,10 @@ use crate::places;
 use base::laws::packed_has_words;
 use base::{NoMemory, pack};
 use image_file::Bare;
-use memory_timing::{Config, Memory};
+use machine_memory::stack::StackCache;
+use machine_memory::timing::{Config, Memory};
 use method_cache::MethodCache;
-use microcode_rom::{constant, entry};
-use stack_cache::StackCache;
+use microcode::{constant, entry};
 use std::alloc::Global;
 
 /// What a machine begins with, but for the words of its image and of its code.

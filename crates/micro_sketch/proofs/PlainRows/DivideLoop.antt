@@ -2,7 +2,7 @@
 use Rattle.std.proofs.Common.{◌≡◌, ℕ, zero, suc, ◌-◌, ◌/◌, ◌^◌, ◌<◌, ◌≤◌, List, [], ◌∷◌, Bool, true, false, ◌&&◌, nat_lt, refl, ap, ◌∙◌, subst, arith, lt-ltb}
 use Rattle.std.proofs.Math.Nat.{div-one}
 use Rattle.micro_flow.specs.Walk.{used}
-use Rattle.microcode_rom.specs.declared.addresses.TheConstants.{DIVIDE_SIGNS, DIVIDE_TURN}
+use Rattle.microcode.specs.declared.addresses.TheConstants.{DIVIDE_SIGNS, DIVIDE_TURN}
 use Rattle.micro_sketch.specs.Sketch.{Sketch, same_bool}
 use Rattle.micro_sketch.specs.Stands.{Env, Shaped, Reaches}
 use Rattle.micro_sketch.proofs.PlainRows.DivideTurn.{at, again, leaves, grown, goes_in, less_one}

@@ -4,7 +4,7 @@ use Rattle.std.proofs.Math.Nat.{mod-eq_of_lt}
 use Rattle.std.proofs.lemmas.List.{drop-set-add}
 use Rattle.micro_flow.specs.declared.CostParams.{CostParams}
 use Rattle.jop_core.specs.State.{MachineState}
-use Rattle.microcode_rom.specs.declared.addresses.TheConstants.{IDIV, IREM}
+use Rattle.microcode.specs.declared.addresses.TheConstants.{IDIV, IREM}
 use Rattle.micro_sketch.specs.Sketch.{Sketch, same_bool}
 use Rattle.micro_sketch.specs.Stands.{Env, Reaches, IsDone}
 use Rattle.micro_sketch.specs.Row.{StandsAt}

@@ -1,7 +1,7 @@
 -- From the rows of idiv and irem to the raise routine.
 use Rattle.std.proofs.Common.{◌≡◌, ℕ, ◌+◌, ◌%◌, ◌^◌, ◌==◌, List, [], ◌∷◌, Bool, true, ◌&&◌, get_or, slice_set, refl}
-use Rattle.microcode_rom.specs.declared.TheConstants.{RAISE}
-use Rattle.microcode_rom.specs.declared.addresses.TheConstants.{IDIV, IREM}
+use Rattle.microcode.specs.declared.TheConstants.{RAISE}
+use Rattle.microcode.specs.declared.addresses.TheConstants.{IDIV, IREM}
 use Rattle.micro_sketch.specs.Sketch.{Sketch, exec, same_bool}
 use Rattle.micro_sketch.proofs.PlainRows.DivideTurn.{at}
 

@@ -4,7 +4,7 @@ use Rattle.std.proofs.Math.Nat.{div-eq_of_lt}
 use Rattle.micro_flow.specs.declared.CostParams.{CostParams}
 use Rattle.jop_core.specs.declared.halt.Halt.TheVariants.{Running}
 use Rattle.jop_core.specs.State.{MachineState}
-use Rattle.microcode_rom.specs.declared.addresses.TheConstants.{DIVIDE_SIGNS, DIVIDE_TURN, IDIV, IREM, LADD}
+use Rattle.microcode.specs.declared.addresses.TheConstants.{DIVIDE_SIGNS, DIVIDE_TURN, IDIV, IREM, LADD}
 use Rattle.micro_sketch.specs.Sketch.{Sketch, same_bool, lead}
 use Rattle.micro_sketch.specs.Stands.{Env, Shaped, Reaches, IsDone}
 use Rattle.micro_sketch.specs.Row.{StandsAt}

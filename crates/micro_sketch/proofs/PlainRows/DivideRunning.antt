@@ -1,6 +1,6 @@
 -- Runs of the machine by what its sketch computes to, and the load from a place below 32.
 use Rattle.std.proofs.Common.{◌≡◌, ◌-◌, ℕ, suc, ◌<◌, Bool, true, false, List, refl, ap, ◌∙◌, subst}
-use Rattle.microcode_rom.specs.declared.addresses.TheConstants.{LADD}
+use Rattle.microcode.specs.declared.addresses.TheConstants.{LADD}
 use Rattle.micro_sketch.specs.Sketch.{Sketch, exec, lead}
 use Rattle.micro_sketch.specs.Stands.{Env, Shaped, PortFits, Goes, Reaches}
 use Rattle.micro_sketch.specs.Laws.{MachineFollows, RunsGoOn, LowWordIsLoaded, with_low}

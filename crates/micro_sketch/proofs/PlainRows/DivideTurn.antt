@@ -3,7 +3,7 @@ use Rattle.std.proofs.Common.{◌≡◌, ℕ, ◌+◌, ◌-◌, ◌*◌, ◌/◌
 use Rattle.jop_core.specs.declared.halt.Halt.TheVariants.{Running}
 use Rattle.jop_core.specs.Operations.{number_of}
 use Rattle.micro_flow.specs.Walk.{used}
-use Rattle.microcode_rom.specs.declared.addresses.TheConstants.{DIVIDE_SIGNS, DIVIDE_TURN, IDIV, IREM, LADD}
+use Rattle.microcode.specs.declared.addresses.TheConstants.{DIVIDE_SIGNS, DIVIDE_TURN, IDIV, IREM, LADD}
 use Rattle.micro_sketch.specs.Sketch.{Sketch, exec, same_bool}
 
 -- f on the way through a row, with nothing under way

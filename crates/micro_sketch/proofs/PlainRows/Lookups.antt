@@ -1,7 +1,7 @@
 -- The row of lookupswitch, by induction over its pairs.
 use Rattle.std.proofs.Common.{◌≡◌, ℕ, zero, suc, ◌+◌, ◌-◌, ◌%◌, ◌^◌, ◌<◌, ◌≤◌, ◌==◌, ◌&&◌, Bool, true, false, nat_lt, if◌then◌else◌, List, [], ◌∷◌, drop, bit_xor, refl, sym, ap, ◌∙◌, arith, lt-ltb, eqb-true, eq-eqb}
 use Rattle.std.specs.Int.Bits.{xor_self, xor_assoc, xor_zero_l, xor_zero_r}
-use Rattle.microcode_rom.specs.declared.addresses.TheConstants.{LOOKUP_TURN, LOOKUP_HIT}
+use Rattle.microcode.specs.declared.addresses.TheConstants.{LOOKUP_TURN, LOOKUP_HIT}
 use Rattle.micro_flow.specs.Walk.{used}
 use Rattle.jop_core.specs.declared.halt.Halt.TheVariants.{Running}
 use Rattle.micro_sketch.specs.Sketch.{Sketch, exec, same_bool}

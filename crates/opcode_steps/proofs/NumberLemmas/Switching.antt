@@ -7,7 +7,7 @@ use Rattle.std.specs.Int.RustNames.{FitsSigned}
 use Rattle.std.proofs.Math.Nat.{mod-eq_of_lt}
 use Rattle.std.proofs.lemmas.Bool.Decides.{nat_tests}
 use Rattle.lists.proofs.Lemmas.{some_same}
-use Rattle.microcode_rom.specs.declared.addresses.TheConstants.{LOOKUP_HIT}
+use Rattle.microcode.specs.declared.addresses.TheConstants.{LOOKUP_HIT}
 use Rattle.opcodes.specs.declared.instruction.Instr.{Instr}
 use Rattle.opcodes.specs.declared.instruction.Case.{Case}
 use Rattle.opcodes.specs.Bytes.{u1, u4, s4}

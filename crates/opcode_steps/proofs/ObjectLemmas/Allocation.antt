@@ -6,7 +6,7 @@ use Rattle.std.proofs.lemmas.List.{length-set}
 use Rattle.std.proofs.lemmas.Option.{none-some}
 use Rattle.std.proofs.Math.Nat.{mod-eq_of_lt}
 use Rattle.lists.proofs.Lemmas.{holds_at, some_same}
-use Rattle.memory_timing.specs.Port.{padded}
+use Rattle.machine_memory.specs.Timing.Port.{padded}
 use Rattle.opcodes.specs.Form.{one, UnsignedShort}
 use Rattle.opcodes.specs.Row as opcodes
 use Rattle.opcodes.specs.Reading.{plain_instr}

@@ -8,7 +8,7 @@ use Rattle.std.proofs.lemmas.List.{length-set, length-replicate}
 use Rattle.std.proofs.lemmas.Option.{none-some}
 use Rattle.std.proofs.Math.Nat.{mod-eq_of_lt}
 use Rattle.lists.proofs.Lemmas.{some_same}
-use Rattle.memory_timing.specs.Port.{padded}
+use Rattle.machine_memory.specs.Timing.Port.{padded}
 use Rattle.opcodes.specs.Bytes.{u1}
 use Rattle.opcodes.specs.Form.{Operands, one, UnsignedByte, UnsignedShort}
 use Rattle.opcodes.specs.Row as opcodes

@@ -5,7 +5,7 @@ use Rattle.std.specs.List.{flat_map, sum_by}
 use Rattle.std.proofs.Math.Seq.{set-append_seam}
 use Rattle.std.proofs.lemmas.List.{take-append-drop, take-append-le, replicate-append-replicate, length-replicate}
 use Rattle.std.proofs.lemmas.List.Sums.{sum_by-append, sum_by-cons}
-use Rattle.memory_timing.specs.Port.{padded}
+use Rattle.machine_memory.specs.Timing.Port.{padded}
 use Rattle.bytecode_model.specs.declared.Value.{Value}
 use Rattle.bytecode_model.specs.declared.Value.TheVariants.{Int, Long, Null}
 use Rattle.bytecode_model.specs.Types.{NumberType, IntType, LongType, Declared, Numeric, Reference, default, zero_of}

@@ -4,7 +4,7 @@ use Rattle.std.specs.Prelude.{slice_set}
 use Rattle.std.proofs.lemmas.Bool.Decides.{nat_tests}
 use Rattle.std.proofs.lemmas.List.Sums.{sum_by-cons}
 use Rattle.lists.proofs.Lemmas.{holds_at, some_same}
-use Rattle.memory_timing.specs.Port.{padded}
+use Rattle.machine_memory.specs.Timing.Port.{padded}
 use Rattle.opcodes.specs.Form.{Operands}
 use Rattle.micro_sketch.specs.View.{env_of}
 use Rattle.micro_sketch.specs.Rows.{Makes, RunsRow}

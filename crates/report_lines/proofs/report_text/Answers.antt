@@ -1,6 +1,6 @@
 use Rattle.std.proofs.Common.{◌<◌, List, length, Contains, sym, subst}
 use Rattle.report_lines.specs.declared.methods.MethodText.{MethodText}
-use Rattle.report_rows.specs.declared.rows.ReportRow.{ReportRow}
+use Rattle.bound_report.specs.declared.contents.rows.ReportRow.{ReportRow}
 use Rattle.report_lines.specs.Text.{IsTextBy}
 use Rattle.report_lines.specs.Told.{name_told, source_told}
 use Rattle.report_lines.proofs.TellLemmas.{if_ok, row_known, report_is}

@@ -1,5 +1,5 @@
 use Rattle.std.proofs.Common.{ℕ, ◌<◌, List, length, Contains, sym, subst, arith}
-use Rattle.report_rows.specs.declared.rows.ReportRow.{ReportRow}
+use Rattle.bound_report.specs.declared.contents.rows.ReportRow.{ReportRow}
 use Rattle.report_lines.specs.Told.{name_told, source_told}
 use Rattle.report_lines.proofs.TellLemmas.{entry_row, entry_small, if_ok, text_of_entries}
 use Rattle.report_lines.proofs.text_by.Goals as goal

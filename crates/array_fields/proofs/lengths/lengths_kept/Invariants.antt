@@ -1,5 +1,5 @@
 use Rattle.std.proofs.Common.{◌≡◌, ℕ, ◌<◌, length}
-use Rattle.further_rules.specs.Arrays.{length_at}
+use Rattle.loop_rules.specs.Further.Arrays.{length_at}
 use Rattle.array_fields.specs.Contents.{content_at, flag_at}
 use Rattle.array_fields.specs.Lengths.{length_kept}
 use Rattle.array_fields.proofs.lengths.lengths_kept.Given as goal

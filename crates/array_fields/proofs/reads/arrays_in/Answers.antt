@@ -3,7 +3,7 @@ use Rattle.lists.proofs.Lemmas.{some_is}
 use Rattle.opcodes.specs.Start.{starts_of}
 use Rattle.bytecode_model.specs.Program.{Body, body_of}
 use Rattle.program_tables.specs.Resolved.{resolved}
-use Rattle.further_rules.specs.Arrays.{AreArraysRead}
+use Rattle.loop_rules.specs.Further.Arrays.{AreArraysRead}
 use Rattle.array_fields.specs.Lengths.{AreIntsOf, array_read, known_by}
 use Rattle.array_fields.proofs.Arranging.{arrays_of_method}
 use Rattle.array_fields.proofs.reads.arrays_in.Goals as goal

@@ -1,6 +1,6 @@
 use Rattle.std.proofs.Common.{◌≡◌, ◌*◌, length, rules, ap, ◌∙◌}
 use Rattle.std.proofs.lemmas.List.{length-replicate}
-use Rattle.wcet.proofs.Coding.{places_within, numbers_within}
+use Rattle.bound_finder.proofs.Coding.{places_within, numbers_within}
 use Rattle.bound_report.specs.Callees.{no_callee}
 use Rattle.bound_report.proofs.callees.callees_of.Goals as goal
 

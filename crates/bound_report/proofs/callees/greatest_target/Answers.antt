@@ -1,6 +1,6 @@
 use Rattle.std.proofs.Common.{get_or, ap, ◌∙◌}
-use Rattle.wcet.specs.Known.{known_at}
-use Rattle.wcet.proofs.Told.{known_read}
+use Rattle.bound_finder.specs.Known.{known_at}
+use Rattle.bound_finder.proofs.Told.{known_read}
 use Rattle.bound_report.specs.Callees.{number_by}
 use Rattle.bound_report.proofs.Choosing.{best_more}
 use Rattle.bound_report.proofs.callees.greatest_target.Goals as goal

@@ -1,5 +1,5 @@
 use Rattle.std.proofs.Common.{take}
-use Rattle.wcet.specs.Known.{known_at}
+use Rattle.bound_finder.specs.Known.{known_at}
 use Rattle.bound_report.specs.Callees.{number_by}
 use Rattle.bound_report.proofs.Choosing.{IsBest}
 use Rattle.bound_report.proofs.callees.greatest_target.Given as goal

@@ -1,7 +1,7 @@
 use Rattle.std.proofs.Common.{ℕ, List, Vec, Global, sym, ap, ap₂, ◌∙◌, subst, inl, inr}
 use Rattle.std.proofs.lemmas.Result.{err_from_is_err_and}
 use Rattle.path_solver.specs.Regions.{charged}
-use Rattle.wcet.specs.Ready.{IsWantOfMemory}
+use Rattle.bound_finder.specs.Ready.{IsWantOfMemory}
 use Rattle.bound_report.specs.declared.counts.NodeCount.{NodeCount}
 use Rattle.bound_report.specs.Nodes.{AreNodesOf}
 use Rattle.bound_report.proofs.methods.counts_of.Goals as goal

@@ -2,9 +2,9 @@ use Rattle.std.proofs.Common.{◌<◌, length, sym, subst, arith}
 use Rattle.std.specs.Prelude.{◌↔◌, IsTrue}
 use Rattle.std.proofs.lemmas.Result.{err_from_is_err_and}
 use Rattle.bound_rules.specs.Fitting.{RegionFits}
-use Rattle.wcet.specs.declared.known.Known.{Known}
-use Rattle.wcet.specs.Known.{bounds_in}
-use Rattle.wcet.proofs.Told.{known_read}
+use Rattle.bound_finder.specs.declared.known.Known.{Known}
+use Rattle.bound_finder.specs.Known.{bounds_in}
+use Rattle.bound_finder.proofs.Told.{known_read}
 use Rattle.bound_report.proofs.Unready.{only_memory}
 use Rattle.bound_report.proofs.methods.method_counts.Goals as goal
 

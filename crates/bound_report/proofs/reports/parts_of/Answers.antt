@@ -4,8 +4,8 @@ use Rattle.method_flow.specs.Flow.{Flow, IsFlowOf}
 use Rattle.method_flow.specs.Regions.{IsGreatestLoad}
 use Rattle.method_flow.specs.declared.timing.Timing.{Timing}
 use Rattle.micro_flow.specs.Costs.{IsGreatestInvoke}
-use Rattle.wcet.specs.Known.{bounds_in, known_at}
-use Rattle.wcet.proofs.Told.{known_read}
+use Rattle.bound_finder.specs.Known.{bounds_in, known_at}
+use Rattle.bound_finder.proofs.Told.{known_read}
 use Rattle.bound_report.specs.declared.counts.MethodCounts.{MethodCounts}
 use Rattle.bound_report.specs.Callees.{more_of}
 use Rattle.bound_report.specs.Report.{rows_of, loads_in}

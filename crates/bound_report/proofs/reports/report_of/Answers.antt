@@ -1,11 +1,11 @@
 use Rattle.std.proofs.Common.{ℕ, List, length, All, Some, sym, ap, ◌∙◌, subst}
-use Rattle.wcet.specs.declared.known.Known.{Known}
-use Rattle.wcet.specs.Known.{bounds_in, known_at, ForEach, IsLimited}
+use Rattle.bound_finder.specs.declared.known.Known.{Known}
+use Rattle.bound_finder.specs.Known.{bounds_in, known_at, ForEach, IsLimited}
 use Rattle.method_flow.specs.Costs.{IsPrintedOf}
-use Rattle.wcet.specs.declared.ending.MethodBound.TheVariants.{Printed}
-use Rattle.wcet.specs.Ending.{AreKnownWithin, IsMethodBound}
+use Rattle.bound_finder.specs.declared.ending.MethodBound.TheVariants.{Printed}
+use Rattle.bound_finder.specs.Ending.{AreKnownWithin, IsMethodBound}
 use Rattle.bound_report.specs.Settled.{IsSettled}
-use Rattle.wcet.proofs.Certifying.{want_is_cause}
+use Rattle.bound_finder.proofs.Certifying.{want_is_cause}
 use Rattle.bound_report.proofs.Ending.{known, settled}
 use Rattle.bound_report.proofs.reports.report_of.Goals as goal
 

@@ -2,7 +2,7 @@ use Rattle.std.proofs.Common.{◌≡◌, ◌+◌, ◌<◌, ℕ, List, length, ge
 use Rattle.std.proofs.lemmas.List.{with_items_is}
 use Rattle.std.proofs.lemmas.List.Elements.{All-contains, Contains-get_or}
 use Rattle.method_flow.specs.Flow.{Flow}
-use Rattle.wcet.specs.Known.{bounds_in}
+use Rattle.bound_finder.specs.Known.{bounds_in}
 use Rattle.bound_report.specs.declared.counts.MethodCounts.{MethodCounts}
 use Rattle.bound_report.specs.Adding.{AddsCount}
 use Rattle.bound_report.proofs.Turns.{IsCounting, counting_none, counting_more, counting_all}

@@ -1,5 +1,5 @@
 use Rattle.std.proofs.Common.{◌≡◌, length}
-use Rattle.wcet.specs.Known.{bounds_in, ForEach}
+use Rattle.bound_finder.specs.Known.{bounds_in, ForEach}
 use Rattle.bound_report.proofs.Turns.{IsCounting}
 use Rattle.bound_report.proofs.times.count_all.Given as goal
 

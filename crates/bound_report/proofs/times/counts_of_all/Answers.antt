@@ -2,7 +2,7 @@ use Rattle.std.proofs.Common.{◌<◌, ◌∙◌, ℕ, List, length, filter, rev
 use Rattle.std.specs.Prelude.{IfOk}
 use Rattle.std.proofs.lemmas.List.Elements.{All-contains}
 use Rattle.loop_nest.proofs.Elements.{from_filter}
-use Rattle.wcet.specs.Known.{bounds_in, ForEach}
+use Rattle.bound_finder.specs.Known.{bounds_in, ForEach}
 use Rattle.bound_report.specs.Adding.{has_number, AreSettled, AreCountsOfAll}
 use Rattle.bound_report.proofs.Callers.{reversed_back}
 use Rattle.bound_report.proofs.Turns.{all_of}

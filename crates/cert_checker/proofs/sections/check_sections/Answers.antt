@@ -1,7 +1,7 @@
 use Rattle.std.proofs.Common.{length, ap, sym, ◌∙◌, subst, rules}
 use Rattle.std.specs.Result.{IfErr}
 use Rattle.std.proofs.lemmas.Result.{IfErr-weaker}
-use Rattle.bound_cert.specs.declared.cert.CertSection.{CertSection}
+use Rattle.certificates.specs.declared.cert.CertSection.{CertSection}
 use Rattle.method_flow.specs.Flow.{Flow}
 use Rattle.cert_checker.specs.Setting.{SectionValues}
 use Rattle.cert_checker.specs.Section.{IsUsual, FailsFor}

@@ -1,6 +1,6 @@
 use Rattle.std.proofs.Common.{◌<◌, ℕ, List, length, sym, ap, ◌∙◌, subst}
 use Rattle.class_lookup.specs.Hierarchy.{with_superinterfaces}
-use Rattle.upward_sets.specs.Numbers.{entry, IsSameSearch, IsPeeled}
+use Rattle.number_sets.specs.Numbers.{entry, IsSameSearch, IsPeeled}
 use Rattle.class_hierarchy.proofs.Standing.{peeled_of, supertypes_of, interface_lists, interface_long, interface_within, interfaces_of}
 use Rattle.class_hierarchy.proofs.above.above_of.Goals as goal
 

@@ -2,7 +2,7 @@ use Rattle.std.proofs.Common.{◌≡◌, ◌<◌, ◌++◌, [], List, ℕ, lengt
 use Rattle.std.specs.Option.{option_map_or}
 use Rattle.std.specs.List.{flat_map}
 use Rattle.class_lookup.specs.Hierarchy.{superclass, superinterfaces}
-use Rattle.upward_sets.specs.Numbers.{entry, IsSameSearch}
+use Rattle.number_sets.specs.Numbers.{entry, IsSameSearch}
 use Rattle.lists.proofs.Tables.{entry_read, same_along}
 use Rattle.class_hierarchy.proofs.Filled.{superclass_below, none_of, above_some, above_none, both_parts, one_part}
 use Rattle.class_hierarchy.proofs.above.inherited_list.Goals as goal

@@ -2,7 +2,7 @@ use Rattle.std.proofs.Common.{◌++◌, [], List, ℕ, replicate, length, get_or
 use Rattle.std.specs.Option.{option_map_or}
 use Rattle.std.specs.List.{flat_map}
 use Rattle.class_lookup.specs.Hierarchy.{superclass, superinterfaces}
-use Rattle.upward_sets.specs.Numbers.{entry}
+use Rattle.number_sets.specs.Numbers.{entry}
 use Rattle.lists.proofs.Among.{among_at}
 use Rattle.lists.proofs.Tables.{same_along}
 use Rattle.class_hierarchy.proofs.Filled.{AreInherited, filled_none, filled_more, filled_all, inherited_list}

@@ -1,7 +1,7 @@
 use Rattle.std.proofs.Common.{◌∷◌, [], List, ℕ, replicate, length, get_or, ap, ◌∙◌, arith}
 use Rattle.std.specs.Option.{option_map_or}
 use Rattle.class_lookup.specs.Hierarchy.{superclass}
-use Rattle.upward_sets.specs.Numbers.{entry}
+use Rattle.number_sets.specs.Numbers.{entry}
 use Rattle.lists.proofs.Among.{among_at}
 use Rattle.class_hierarchy.proofs.Filled.{AreSuperclassesOf, filled_none, filled_more, filled_all, chain_list}
 use Rattle.class_hierarchy.proofs.above.superclass_lists.Goals as goal

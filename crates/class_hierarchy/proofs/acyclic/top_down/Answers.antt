@@ -1,5 +1,5 @@
 use Rattle.std.proofs.Common.{List, ℕ}
-use Rattle.upward_sets.specs.Numbers.{IsPeeled, IsStuck}
+use Rattle.number_sets.specs.Numbers.{IsPeeled, IsStuck}
 use Rattle.class_hierarchy.specs.TopDown.{IsTopDown}
 use Rattle.class_hierarchy.proofs.Ranks.{top_down_of, both_ok}
 use Rattle.class_hierarchy.proofs.acyclic.top_down.Goals as goal

@@ -1,7 +1,7 @@
 use Rattle.std.proofs.Common.{◌≡◌, ℕ, ◌<◌, ◌≤◌, true}
 use Rattle.std.specs.Prelude.{slice_index}
 use Rattle.lists.specs.Numbers.{is_among}
-use Rattle.upward_sets.specs.Numbers.{entry}
+use Rattle.number_sets.specs.Numbers.{entry}
 use Rattle.class_hierarchy.proofs.cycles.never_rise.Given as goal
 
 abbrev pub invariant-loop-class : goal.invariant-loop-class

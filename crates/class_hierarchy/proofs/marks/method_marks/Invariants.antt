@@ -1,5 +1,5 @@
 use Rattle.std.proofs.Common.{◌≤◌, length}
-use Rattle.bit_rows.specs.Table.{columns}
+use Rattle.number_sets.specs.Bits.Table.{columns}
 use Rattle.class_hierarchy.proofs.Marking.{MarkedBelow}
 use Rattle.class_hierarchy.proofs.marks.method_marks.Given as goal
 

@@ -2,7 +2,7 @@ use Rattle.std.proofs.Common.{◌≡◌, ℕ, List, Some, sym, subst}
 use Rattle.std.specs.Prelude.{slice_get}
 use Rattle.class_pool.specs.declared.class.ClassFile.{ClassFile}
 use Rattle.program_tables.specs.Resolved.{resolved}
-use Rattle.method_names.specs.Written.{written_name}
+use Rattle.name_laws.specs.Written.{written_name}
 use Rattle.method_flow.specs.Flow.{Coded, IsFlowOf}
 use Rattle.commands.specs.Headers.{AnswersHeaders}
 use Rattle.commands.proofs.headers.headers_linked.Goals as goal

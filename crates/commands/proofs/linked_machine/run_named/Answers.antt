@@ -1,7 +1,7 @@
 use Rattle.std.proofs.Common.{List, IfOk, sym, subst}
 use Rattle.class_pool.specs.declared.class.ClassFile.{ClassFile}
 use Rattle.image_facts.specs.declared.method.CodedMethod.{CodedMethod}
-use Rattle.linked_methods.specs.Placed.{AreOnly}
+use Rattle.jopizer.specs.Methods.Placed.{AreOnly}
 use Rattle.jop_core.specs.Reset.{linked_reset}
 use Rattle.run_devices.specs.Lent.{lent}
 use Rattle.commands.specs.LinkedRun.{linked_setting}

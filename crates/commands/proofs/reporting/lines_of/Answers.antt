@@ -1,7 +1,7 @@
 use Rattle.std.proofs.Common.{◌≡◌, ◌+◌, List, Option, sym, subst}
 use Rattle.program_tables.specs.Resolved.{resolved}
-use Rattle.report_rows.specs.declared.rows.ReportRow.{ReportRow}
-use Rattle.report_rows.specs.Rows.{AreOfCode, cycles_of}
+use Rattle.bound_report.specs.declared.contents.rows.ReportRow.{ReportRow}
+use Rattle.bound_report.specs.Contents.Rows.{AreOfCode, cycles_of}
 use Rattle.bound_report.specs.declared.reports.Report.{Report}
 use Rattle.commands.specs.Reporting.{HasParts}
 use Rattle.commands.proofs.reporting.lines_of.Goals as goal

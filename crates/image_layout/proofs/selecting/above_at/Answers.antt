@@ -1,7 +1,7 @@
 use Rattle.std.proofs.Common.{◌≡◌, sym, ◌∙◌, subst}
 use Rattle.lists.proofs.Lemmas.{some_same}
 use Rattle.class_lookup.specs.Lookup.{Place}
-use Rattle.method_selection.specs.Selecting.{IsSelectedAbove}
+use Rattle.class_selection.specs.Selecting.{IsSelectedAbove}
 use Rattle.image_layout.proofs.RowLemmas.{got}
 use Rattle.image_layout.proofs.selecting.above_at.Goals as goal
 

@@ -3,7 +3,7 @@ use Rattle.std.proofs.lemmas.List.{get_or_default}
 use Rattle.class_pool.specs.declared.class.ClassFile.{ClassFile}
 use Rattle.class_lookup.specs.Hierarchy.{superclass}
 use Rattle.class_hierarchy.proofs.Filled.{superclass_below}
-use Rattle.method_selection.specs.declared.selected.Selected.{Selected}
+use Rattle.class_selection.specs.declared.selected.Selected.{Selected}
 use Rattle.image_layout.specs.Rows.{AreSelected, table_methods}
 use Rattle.image_layout.proofs.RowLemmas.{interface_below, interface_none}
 use Rattle.image_layout.proofs.selecting.interface_row.Goals as goal

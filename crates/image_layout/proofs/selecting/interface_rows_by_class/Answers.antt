@@ -1,6 +1,6 @@
 use Rattle.std.proofs.Common.{List, [], get_or, length, refl, sym, ap, ◌∙◌, subst, arith}
 use Rattle.lists.proofs.Among.{among_at}
-use Rattle.method_selection.specs.declared.selected.Selected.{Selected}
+use Rattle.class_selection.specs.declared.selected.Selected.{Selected}
 use Rattle.image_layout.specs.Rows.{AreSelected, table_methods}
 use Rattle.image_layout.proofs.RowLemmas.{rows_none, rows_more, rows_all}
 use Rattle.image_layout.proofs.selecting.interface_rows_by_class.Goals as goal

@@ -1,6 +1,6 @@
 use Rattle.std.proofs.Common.{length, length-append, ◌∷◌, [], List, sym, ap, ◌∙◌, arith}
 use Rattle.std.specs.Prelude.{slice_get}
-use Rattle.method_selection.specs.declared.selected.Selected.{Selected}
+use Rattle.class_selection.specs.declared.selected.Selected.{Selected}
 use Rattle.image_layout.proofs.RowLemmas.{got, so_far_more}
 use Rattle.image_layout.proofs.selecting.row_of.Goals as goal
 

@@ -1,7 +1,7 @@
 use Rattle.std.proofs.Common.{List, [], get_or, length, refl, sym, ap, ◌∙◌, subst, arith}
 use Rattle.lists.proofs.Among.{among_at}
 use Rattle.image_words.specs.Slots as numbered
-use Rattle.method_selection.specs.declared.selected.Selected.{Selected}
+use Rattle.class_selection.specs.declared.selected.Selected.{Selected}
 use Rattle.image_layout.specs.Rows.{AreSelected}
 use Rattle.image_layout.proofs.RowLemmas.{rows_none, rows_more, rows_all}
 use Rattle.image_layout.proofs.selecting.rows_by_class.Goals as goal

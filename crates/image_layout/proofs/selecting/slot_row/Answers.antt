@@ -5,7 +5,7 @@ use Rattle.class_lookup.specs.Hierarchy.{superclass}
 use Rattle.class_lookup.specs.Lookup.{Place}
 use Rattle.class_hierarchy.proofs.Filled.{superclass_below}
 use Rattle.image_words.specs.Slots as numbered
-use Rattle.method_selection.specs.declared.selected.Selected.{Selected}
+use Rattle.class_selection.specs.declared.selected.Selected.{Selected}
 use Rattle.image_layout.specs.Rows.{AreSelected}
 use Rattle.image_layout.proofs.RowLemmas.{below_row, below_none}
 use Rattle.image_layout.proofs.selecting.slot_row.Goals as goal

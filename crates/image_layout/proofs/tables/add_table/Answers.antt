@@ -5,7 +5,7 @@ use Rattle.class_pool.specs.declared.class.ClassFile.{ClassFile}
 use Rattle.class_lookup.specs.Hierarchy.{is_interface}
 use Rattle.image_words.specs.Layout.{outline_of}
 use Rattle.image_words.specs.Slots.{slots}
-use Rattle.method_selection.specs.declared.selected.Selected.{Selected}
+use Rattle.class_selection.specs.declared.selected.Selected.{Selected}
 use Rattle.image_layout.specs.Rows.{AreSelected}
 use Rattle.image_layout.proofs.RowLemmas.{table_words}
 use Rattle.image_layout.proofs.tables.add_table.Goals as goal

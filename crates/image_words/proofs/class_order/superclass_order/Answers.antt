@@ -1,5 +1,5 @@
 use Rattle.std.proofs.Common.{ℕ, List, length, ap, ◌∙◌, arith}
-use Rattle.upward_sets.specs.Numbers.{IsPeeled, IsStuck}
+use Rattle.number_sets.specs.Numbers.{IsPeeled, IsStuck}
 use Rattle.image_words.specs.Order.{IsSuperclassFirst}
 use Rattle.image_words.proofs.OrderLemmas.{superclass_lists, superclass_first}
 use Rattle.image_words.proofs.SlotLemmas.{two_ok}

@@ -1,8 +1,8 @@
 use Rattle.std.proofs.Common.{◌≡◌, ℕ, List, subst}
 use Rattle.std.specs.Prelude.{IfOk}
 use Rattle.class_pool.specs.declared.class.ClassFile.{ClassFile}
-use Rattle.activation_watch.specs.Counting.{no_slots}
-use Rattle.analysis_commands.specs.PlanAnswers.{IsFlowWithNames}
+use Rattle.run_follower.specs.Watch.Counting.{no_slots}
+use Rattle.slot_plans.specs.PlanAnswers.{IsFlowWithNames}
 use Rattle.jop_cli.proofs.Cycled.{counter_ok}
 use Rattle.jop_cli.proofs.cycling.counter_of.Goals as goal
 

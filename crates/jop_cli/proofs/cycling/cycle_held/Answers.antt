@@ -2,7 +2,7 @@ use Rattle.std.proofs.Common.{List, None, sym, ◌∙◌, ap, subst, inr}
 use Rattle.class_pool.specs.declared.class.ClassFile.{ClassFile}
 use Rattle.jop_core.specs.Reset.{linked_reset}
 use Rattle.run_devices.specs.Lent.{Lent, lent}
-use Rattle.activation_watch.specs.declared.slots.Slots.{Slots}
+use Rattle.run_follower.specs.declared.watch.slots.Slots.{Slots}
 use Rattle.commands.specs.Leaving.{Leaves}
 use Rattle.commands.specs.LinkedRun.{HasClass}
 use Rattle.commands.specs.LinkedFile.{SaysEnd}

@@ -1,5 +1,5 @@
 use Rattle.std.proofs.Common.{arith}
-use Rattle.method_sources.specs.Sources.{source_at}
+use Rattle.source_places.specs.Methods.Sources.{source_at}
 use Rattle.jop_cli.proofs.laws.reports_add_up.Goals as goal
 
 pub returns : goal.returns

@@ -2,7 +2,7 @@ use Rattle.std.proofs.Common.{◌≡◌, ℕ, subst}
 use Rattle.method_flow.specs.declared.timing.Timing.{Timing}
 use Rattle.node_costs.specs.Costs as table
 use Rattle.method_bounds.specs.Answers.{IsBoundAnswer}
-use Rattle.activation_watch.specs.Counting.{no_totals}
+use Rattle.run_follower.specs.Watch.Counting.{no_totals}
 use Rattle.jop_cli.proofs.profiling.prepare_with.Goals as goal
 
 pub returns : goal.returns

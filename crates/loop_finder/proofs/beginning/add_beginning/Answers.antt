@@ -1,6 +1,6 @@
 use Rattle.std.proofs.Common.{◌≡◌, ℤ, w32, to_z, of_z, Option, refl, subst, arith}
 use Rattle.std.proofs.lemmas.Int.{ints}
-use Rattle.further_rules.specs.Beginning.{BeginsAt}
+use Rattle.loop_rules.specs.Further.Beginning.{BeginsAt}
 use Rattle.loop_acts.specs.Writing.{IsOnly}
 use Rattle.loop_finder.proofs.Adding.{none_added, one_added}
 use Rattle.loop_finder.proofs.beginning.add_beginning.Goals as goal

@@ -1,6 +1,6 @@
 use Rattle.std.proofs.Common.{ℕ, take}
 use Rattle.bytecode_model.specs.Program.{Program}
-use Rattle.further_rules.specs.Known.{Known}
+use Rattle.loop_rules.specs.Further.Known.{Known}
 use Rattle.loop_marks.specs.Marking.{AreMarksOf}
 use Rattle.loop_finder.specs.Beginning.{AddsBeginnings, IsBodyOf}
 use Rattle.loop_finder.proofs.Adding.{IsSteppedAmong}

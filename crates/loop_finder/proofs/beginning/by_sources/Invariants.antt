@@ -1,7 +1,7 @@
 use Rattle.std.proofs.Common.{ℕ, take}
 use Rattle.bytecode_model.specs.Program.{Program}
 use Rattle.loop_nest.specs.Digraph.{sources_of}
-use Rattle.further_rules.specs.Known.{Known}
+use Rattle.loop_rules.specs.Further.Known.{Known}
 use Rattle.loop_marks.specs.Marking.{AreMarksOf}
 use Rattle.loop_finder.specs.Beginning.{IsBodyOf, IsKnownBeginning}
 use Rattle.loop_finder.proofs.beginning.by_sources.Given as goal

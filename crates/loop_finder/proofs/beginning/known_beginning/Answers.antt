@@ -1,7 +1,7 @@
 use Rattle.std.proofs.Common.{◌≡◌, ◌≢◌, ℤ, w32, to_z, of_z, Some, sym, ◌∙◌, subst, arith}
 use Rattle.std.proofs.lemmas.Int.{ints}
 use Rattle.loop_nest.specs.Digraph.{sources_of}
-use Rattle.further_rules.specs.Beginning.{BeginsAt}
+use Rattle.loop_rules.specs.Further.Beginning.{BeginsAt}
 use Rattle.loop_finder.specs.declared.beginning.SoFar.{SoFar}
 use Rattle.loop_finder.specs.Beginning.{IsKnownBeginning}
 use Rattle.loop_acts.specs.Writing.{IsOnly}

@@ -4,7 +4,7 @@ use Rattle.bytecode_model.specs.Program.{Program}
 use Rattle.loop_nest.specs.Digraph.{Digraph}
 use Rattle.loop_nest.specs.Nest.{IsNest}
 use Rattle.compact_walks.specs.Moving.{IsMoved}
-use Rattle.further_rules.specs.Known.{Known}
+use Rattle.loop_rules.specs.Further.Known.{Known}
 use Rattle.loop_finder.specs.Beginning.{IsBodyOf}
 use Rattle.loop_finder.proofs.Adding.{AreOfFirst}
 use Rattle.loop_finder.proofs.finding.beginnings.Given as goal

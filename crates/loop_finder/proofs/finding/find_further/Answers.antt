@@ -1,7 +1,7 @@
 use Rattle.std.proofs.Common.{ℕ, ◌+◌, ◌<◌, List, ◌++◌, length, map, Option, refl, sym, ap, ◌∙◌, subst, arith}
 use Rattle.std.proofs.lemmas.Option.{slice_get_read}
-use Rattle.further_rules.specs.declared.table.KnownInt.{KnownInt}
-use Rattle.further_rules.specs.Found.{AreKnownInts, Table}
+use Rattle.loop_rules.specs.declared.further.table.KnownInt.{KnownInt}
+use Rattle.loop_rules.specs.Further.Found.{AreKnownInts, Table}
 use Rattle.loop_rules.specs.declared.found.FoundLoop.{FoundLoop}
 use Rattle.loop_acts.specs.Rules.{further}
 use Rattle.loop_acts.specs.Rules.Given.{further_on}

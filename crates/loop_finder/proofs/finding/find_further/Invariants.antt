@@ -1,7 +1,7 @@
 use Rattle.bytecode_model.specs.Program.{Program}
 use Rattle.method_flow.specs.Flow.{IsFlowOf}
-use Rattle.further_rules.specs.Arrays.{AreTables}
-use Rattle.further_rules.specs.Known.{Known}
+use Rattle.loop_rules.specs.Further.Arrays.{AreTables}
+use Rattle.loop_rules.specs.Further.Known.{Known}
 use Rattle.loop_acts.specs.Rules.{further}
 use Rattle.loop_finder.proofs.Programs.{AreFoundBelow}
 use Rattle.loop_finder.proofs.finding.find_further.Given as goal

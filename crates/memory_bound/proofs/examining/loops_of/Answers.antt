@@ -1,5 +1,5 @@
 use Rattle.std.proofs.Common.{◌≡◌, ℕ, List, Option, map, ap, ◌∙◌, subst}
-use Rattle.loop_bounds.specs.Bounds.{LoopBound}
+use Rattle.bound_texts.specs.Loops.Bounds.{LoopBound}
 use Rattle.method_flow.specs.Flow.{Flow}
 use Rattle.node_costs.specs.Costs.{bound_of_node}
 use Rattle.memory_bound.specs.Setting.{bounds_in}

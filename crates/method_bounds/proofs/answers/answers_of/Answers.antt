@@ -6,7 +6,7 @@ use Rattle.bytecode_model.specs.Program.{Program}
 use Rattle.method_flow.specs.Flow.{IsFlowOf}
 use Rattle.node_costs.specs.Costs.{bounds_of}
 use Rattle.answer_lines.specs.declared.bound.BoundCause.{BoundCause}
-use Rattle.wcet.specs.declared.ending.MethodBound.{MethodBound}
+use Rattle.bound_finder.specs.declared.ending.MethodBound.{MethodBound}
 use Rattle.method_bounds.specs.declared.answer.BoundAnswer.{BoundAnswer}
 use Rattle.method_bounds.specs.Answers.{IsBoundAnswer}
 use Rattle.method_bounds.specs.Answering.{refused_by, AreWritten}

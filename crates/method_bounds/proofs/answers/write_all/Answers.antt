@@ -2,7 +2,7 @@ use Rattle.std.proofs.Common.{◌≡◌, ◌<◌, ℕ, List, ◌∷◌, [], ◌+
 use Rattle.std.specs.Prelude.{slice_get}
 use Rattle.std.proofs.lemmas.List.{take_more, length-take-le}
 use Rattle.std.proofs.lemmas.Option.{slice_get-get_or}
-use Rattle.wcet.specs.declared.ending.MethodBound.TheVariants.{Printed}
+use Rattle.bound_finder.specs.declared.ending.MethodBound.TheVariants.{Printed}
 use Rattle.method_bounds.specs.declared.answer.BoundAnswer.{BoundAnswer}
 use Rattle.method_bounds.specs.Answering.{AreWritten}
 use Rattle.method_bounds.proofs.Written.{written_more}

@@ -1,10 +1,10 @@
 use Rattle.std.proofs.Common.{◌≡◌, ℕ, ◌+◌, List, [], ◌∷◌, ◌++◌, length, sym, ap, ◌∙◌, subst, inl, inr}
 use Rattle.std.proofs.lemmas.List.{length_push}
-use Rattle.loop_bounds.specs.Bounds.{LoopBound}
+use Rattle.bound_texts.specs.Loops.Bounds.{LoopBound}
 use Rattle.bytecode_model.specs.Program.{Program}
 use Rattle.method_flow.specs.Flow.{Flow, IsFlowOf}
 use Rattle.node_costs.specs.Costs.{bounds_of}
-use Rattle.wcet.proofs.Pushed.{push_cases}
+use Rattle.bound_finder.proofs.Pushed.{push_cases}
 use Rattle.method_bounds.specs.declared.loops.Loops.{Loops}
 use Rattle.method_bounds.specs.Loops.{AreLoops, AreLoopsOf}
 use Rattle.method_bounds.proofs.loops.all_loops.Goals as goal

@@ -1,5 +1,5 @@
 use Rattle.std.proofs.Common.{◌≡◌, List, length}
-use Rattle.loop_bounds.specs.Bounds.{LoopBound}
+use Rattle.bound_texts.specs.Loops.Bounds.{LoopBound}
 use Rattle.method_bounds.specs.Loops.{AreLoopsOf}
 use Rattle.method_bounds.specs.Placing.{IsPlacing}
 use Rattle.method_bounds.specs.Sorting.{AreSorted}

@@ -1,6 +1,6 @@
 use Rattle.std.proofs.Common.{rules, decimal}
-use Rattle.bound_cert.specs.CertLines.{node_text}
-use Rattle.bound_cert.proofs.NumberLemmas.{nothing_found}
+use Rattle.certificates.specs.CertLines.{node_text}
+use Rattle.certificates.proofs.NumberLemmas.{nothing_found}
 use Rattle.priced_cert.specs.Prices.{visit_text, IsVisit}
 use Rattle.priced_cert.proofs.ReadingLemmas.{no_parts, no_node, no_price}
 use Rattle.priced_cert.proofs.price_lines.node_and_price.Goals as goal

@@ -1,5 +1,5 @@
 use Rattle.std.proofs.Common.{rules}
-use Rattle.bound_cert.proofs.NumberLemmas.{nothing_found}
+use Rattle.certificates.proofs.NumberLemmas.{nothing_found}
 use Rattle.priced_cert.specs.Prices.{fee_text, IsFee}
 use Rattle.priced_cert.proofs.ReadingLemmas.{no_fee_price, no_fee_header, no_fee_alone}
 use Rattle.priced_cert.proofs.price_lines.price_and_header.Goals as goal

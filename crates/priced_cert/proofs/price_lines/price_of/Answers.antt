@@ -1,6 +1,6 @@
 use Rattle.std.proofs.Common.{rules}
-use Rattle.bound_cert.specs.CertLines.{node_text}
-use Rattle.bound_cert.proofs.NumberLemmas.{nothing_found}
+use Rattle.certificates.specs.CertLines.{node_text}
+use Rattle.certificates.proofs.NumberLemmas.{nothing_found}
 use Rattle.priced_cert.specs.Prices.{price_text, fee_text, IsPriceInRange}
 use Rattle.priced_cert.proofs.ReadingLemmas.{no_parts, no_price_node, no_price_fee}
 use Rattle.priced_cert.proofs.price_lines.price_of.Goals as goal

@@ -1,5 +1,5 @@
 use Rattle.std.proofs.Common.{rules, decimal}
-use Rattle.bound_cert.proofs.NumberLemmas.{nothing_found}
+use Rattle.certificates.proofs.NumberLemmas.{nothing_found}
 use Rattle.priced_cert.specs.Prices.{root_price_text, visit_text, IsRootPriceInRange}
 use Rattle.priced_cert.proofs.ReadingLemmas.{no_parts, no_root_method, no_root_visit}
 use Rattle.priced_cert.proofs.price_lines.root_price_of.Goals as goal

@@ -1,8 +1,8 @@
 use Rattle.std.proofs.Common.{◌≡◌, ℕ, List, sym, subst, rules}
 use Rattle.ascii_text.specs.Line.{lines_of as text_lines}
-use Rattle.bound_cert.specs.declared.reader.CertFault.TheVariants as faults
-use Rattle.bound_cert.specs.Texts.{AreLinesOf, IsFirstRefusedLine}
-use Rattle.bound_cert.specs.Refused.{IsRefused}
+use Rattle.certificates.specs.declared.reader.CertFault.TheVariants as faults
+use Rattle.certificates.specs.Texts.{AreLinesOf, IsFirstRefusedLine}
+use Rattle.certificates.specs.Refused.{IsRefused}
 use Rattle.priced_cert.specs.Certificate.{PricedCertificate}
 use Rattle.priced_cert.specs.Texts.{ArePricedLinesOf, IsFirstUnpricedLine}
 use Rattle.priced_cert.proofs.FrontLemmas.{read_whole, read_stopped, read_refused}

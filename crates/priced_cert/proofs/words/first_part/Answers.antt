@@ -1,5 +1,5 @@
 use Rattle.std.proofs.Common.{length}
-use Rattle.bound_cert.proofs.PartLemmas.{first_part_at, whole_part, part_is}
+use Rattle.certificates.proofs.PartLemmas.{first_part_at, whole_part, part_is}
 use Rattle.priced_cert.proofs.words.first_part.Goals as goal
 
 pub returns-in-Some : goal.returns-in-Some

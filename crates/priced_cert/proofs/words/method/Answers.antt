@@ -1,5 +1,5 @@
 use Rattle.std.proofs.Common.{arith}
-use Rattle.bound_cert.proofs.NumberLemmas.{one_number}
+use Rattle.certificates.proofs.NumberLemmas.{one_number}
 use Rattle.priced_cert.proofs.words.method.Goals as goal
 
 pub returns-else-number-from : goal.returns-else-number-from

@@ -1,6 +1,6 @@
 use Rattle.std.proofs.Common.{rules, ◌∷◌, []}
-use Rattle.bound_cert.proofs.NumberLemmas.{ends_with, no_raise, raise_found, nothing_found}
-use Rattle.bound_cert.specs.CertLines.{node_text}
+use Rattle.certificates.proofs.NumberLemmas.{ends_with, no_raise, raise_found, nothing_found}
+use Rattle.certificates.specs.CertLines.{node_text}
 use Rattle.priced_cert.specs.Prices.{IsNode}
 use Rattle.priced_cert.proofs.words.node.Goals as goal
 

@@ -1,4 +1,4 @@
-use Rattle.bound_cert.proofs.NumberLemmas.{number_finds}
+use Rattle.certificates.proofs.NumberLemmas.{number_finds}
 use Rattle.priced_cert.proofs.words.number.Goals as goal
 
 pub returns : goal.returns

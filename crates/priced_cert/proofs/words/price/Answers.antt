@@ -1,5 +1,5 @@
 use Rattle.std.proofs.Common.{arith}
-use Rattle.bound_cert.proofs.NumberLemmas.{one_number}
+use Rattle.certificates.proofs.NumberLemmas.{one_number}
 use Rattle.priced_cert.proofs.words.price.Goals as goal
 
 pub returns-else-number-gt0 : goal.returns-else-number-gt0

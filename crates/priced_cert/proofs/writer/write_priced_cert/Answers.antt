@@ -1,6 +1,6 @@
 use Rattle.std.proofs.Common.{◌≡◌, ap, ◌∙◌, arith}
 use Rattle.ascii_text.specs.Line.{lines_of as text_lines}
-use Rattle.bound_cert.specs.Texts.{text_of}
+use Rattle.certificates.specs.Texts.{text_of}
 use Rattle.priced_cert.proofs.WeavingLemmas.{skipped, all_written}
 use Rattle.priced_cert.proofs.writer.write_priced_cert.Goals as goal
 

@@ -1,7 +1,7 @@
 use Rattle.std.proofs.Common.{◌≡◌, ◌≤◌, ◌+◌, ◌*◌, ◌++◌, length, take}
 use Rattle.std.specs.Prelude.{vec_capacity, flat_map}
 use Rattle.class_pool.specs.Utf8.{utf8_bytes}
-use Rattle.method_names.specs.Written.{written_byte}
+use Rattle.name_laws.specs.Written.{written_byte}
 use Rattle.refusal_lines.proofs.telling.put_rest.Given as goal
 
 abbrev pub invariant-loop-unit : goal.invariant-loop-unit

@@ -1,7 +1,7 @@
 use Rattle.std.proofs.Common.{◌≡◌, ℕ, rules}
 use Rattle.std.proofs.lemmas.Fn.{always_returns_same}
 use Rattle.std.specs.declared.cmp.Reverse.{Reverse}
-use Rattle.report_rows.specs.declared.rows.ReportRow.{ReportRow}
+use Rattle.bound_report.specs.declared.contents.rows.ReportRow.{ReportRow}
 use Rattle.report_lines.proofs.entries.sort_entries.Goals as goal
 
 -- what the order goes by

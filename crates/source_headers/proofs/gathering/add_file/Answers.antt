@@ -1,6 +1,6 @@
 use Rattle.std.proofs.Common.{◌≡◌, ℕ, [], Contains, Some, Vec, Global, sym, ap, ◌∙◌}
 use Rattle.std.specs.Option.{option_map}
-use Rattle.method_sources.specs.Sources.{file_of}
+use Rattle.source_places.specs.Methods.Sources.{file_of}
 use Rattle.source_headers.proofs.FileLemmas.{with_same, file_same, no_number}
 use Rattle.source_headers.proofs.gathering.add_file.Goals as goal
 

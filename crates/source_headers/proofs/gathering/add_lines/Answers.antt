@@ -1,6 +1,6 @@
 use Rattle.std.proofs.Common.{◌≡◌, List, ℕ, Option, sym, ap, ◌∙◌, subst}
 use Rattle.std.specs.Prelude.{OnOk}
-use Rattle.method_sources.specs.declared.sources.MethodSource.{MethodSource}
+use Rattle.source_places.specs.declared.methods.sources.MethodSource.{MethodSource}
 use Rattle.source_headers.specs.Gathered.{AddsLines}
 use Rattle.source_headers.specs.Told.{headed_lines}
 use Rattle.source_headers.proofs.FileLemmas.{lines_added, no_lines}

@@ -1,4 +1,4 @@
-use Rattle.method_sources.proofs.BodyLemmas.{coded_is}
+use Rattle.source_places.proofs.MethodsLemmas.BodyLemmas.{coded_is}
 use Rattle.source_headers.proofs.ToldLemmas.{source_at_places, source_in_code}
 use Rattle.source_headers.proofs.methods.source_where.Goals as goal
 

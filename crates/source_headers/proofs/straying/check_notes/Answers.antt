@@ -1,5 +1,5 @@
 use Rattle.std.proofs.Common.{sym}
-use Rattle.source_bounds.specs.Meaning.{note_at}
+use Rattle.bound_texts.specs.Sources.Meaning.{note_at}
 use Rattle.source_headers.proofs.StrayLemmas.{first_lacking}
 use Rattle.source_headers.proofs.straying.check_notes.Goals as goal
 

@@ -1,7 +1,7 @@
 use Rattle.std.proofs.Common.{lit<, ◌≡◌}
 use Rattle.std.specs.Prelude.{IsSomeAnd}
 use Rattle.bytecode_model.specs.State.{Frame, State}
-use Rattle.machine_frames.specs.Shows.{top_frame}
+use Rattle.machine_stands.specs.ShownFrames.Shows.{top_frame}
 use Rattle.boundary.specs.Meaning.{methods_of}
 use Rattle.boundary.specs.Session.{Session}
 use Rattle.boundary.proofs.Reading.{is_shown, each_state}

@@ -1,7 +1,7 @@
 use Rattle.std.proofs.Common.{subst}
 use Rattle.std.specs.Prelude.{IfOk}
 use Rattle.loop_nest.specs.Digraph.{Digraph}
-use Rattle.further_rules.specs.Search.{AreBacks}
+use Rattle.loop_rules.specs.Further.Search.{AreBacks}
 use Rattle.loop_marks.proofs.routing.Routes.backs.Goals as goal
 
 pub returns : goal.returns

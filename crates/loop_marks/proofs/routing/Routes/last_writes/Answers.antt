@@ -4,8 +4,8 @@ use Rattle.bytecode_model.specs.Program.{Program}
 use Rattle.loop_nest.specs.Digraph.{Digraph}
 use Rattle.method_flow.specs.Graphs.{IsGraphOf}
 use Rattle.method_flow.specs.Nodes.{IsEdge, IsReached, Node, number_of}
-use Rattle.further_rules.specs.Last.{AreLastWrites, StopsAtWritesAlone}
-use Rattle.further_rules.specs.Search.{AreBacks, IsPassed}
+use Rattle.loop_rules.specs.Further.Last.{AreLastWrites, StopsAtWritesAlone}
+use Rattle.loop_rules.specs.Further.Search.{AreBacks, IsPassed}
 use Rattle.loop_marks.proofs.routing.Routes.last_writes.Goals as goal
 
 pub returns : goal.returns

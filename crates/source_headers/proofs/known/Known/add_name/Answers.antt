@@ -1,5 +1,5 @@
 use Rattle.std.proofs.Common.{◌≡◌, List, ℕ, Some, ◌∙◌, ap, subst}
-use Rattle.loop_bounds.proofs.NameLemmas.{texts, IsGrown, grown}
+use Rattle.bound_texts.proofs.LoopsLemmas.NameLemmas.{texts, IsGrown, grown}
 use Rattle.source_headers.specs.Known.{KnownSites, IsWith}
 use Rattle.source_headers.proofs.KnownLemmas.{still_numbered, names_with, name_at, sites_stay}
 use Rattle.source_headers.proofs.known.Known.add_name.Goals as goal

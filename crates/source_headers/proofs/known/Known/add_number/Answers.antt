@@ -1,5 +1,5 @@
 use Rattle.std.proofs.Common.{◌≡◌, subst, map, get_or, []}
-use Rattle.loop_bounds.proofs.NameLemmas.{texts}
+use Rattle.bound_texts.proofs.LoopsLemmas.NameLemmas.{texts}
 use Rattle.source_headers.specs.Known.{KnownSites, IsWith, site_by}
 use Rattle.source_headers.proofs.KnownLemmas.{sites_with}
 use Rattle.source_headers.proofs.known.Known.add_number.Goals as goal

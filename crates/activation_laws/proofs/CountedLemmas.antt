@@ -1,0 +1,6 @@
+pub mod Parting
+pub mod Staying
+pub mod Holding
+pub mod Starting
+pub mod Beginning
+pub mod FurtherBeginning

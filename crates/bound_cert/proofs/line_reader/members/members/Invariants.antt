@@ -1,9 +1,0 @@
-use Rattle.std.proofs.Common.{length}
-use Rattle.bound_cert.proofs.MemberLemmas.{AreReadTo}
-use Rattle.bound_cert.proofs.line_reader.members.members.Given as goal
-
-abbrev pub invariant-loop-behind : goal.invariant-loop-behind
-invariant-loop-behind l = AreReadTo l.text l.members.items l.rest
-
-abbrev pub decreases-loop-behind : goal.decreases-loop-behind
-decreases-loop-behind l = length l.rest

@@ -1,8 +1,0 @@
-use Rattle.std.proofs.Common.{arith}
-use Rattle.bound_cert.proofs.NumberLemmas.{one_number}
-use Rattle.bound_cert.proofs.line_reader.number.method.Goals as goal
-
-pub returns-else-number-from : goal.returns-else-number-from
-returns-else-number-from c = λ x small e.
-    let same = one_number c.args.text.now c.in_ok-number.number x c.in_ok-number.ensures.0 e c.in_ok-number.ensures.1 (omega arith) in
-    omega (arith, c.if-number-from.false, c.from.ensures)

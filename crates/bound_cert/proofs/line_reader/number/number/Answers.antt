@@ -1,5 +1,0 @@
-use Rattle.bound_cert.proofs.NumberLemmas.{number_finds}
-use Rattle.bound_cert.proofs.line_reader.number.number.Goals as goal
-
-pub returns : goal.returns
-returns c = number_finds c.args.text.now c.read_u64.result c.read_u64.ensures

@@ -1,5 +1,0 @@
-use Rattle.bound_cert.proofs.LineLemmas.{says_one_thing}
-use Rattle.bound_cert.proofs.lines.laws.says_one.Goals as goal
-
-pub returns : goal.returns
-returns c = says_one_thing

@@ -1,7 +1,0 @@
-use Rattle.ascii_text.specs.Line.{lines_of}
-use Rattle.bound_cert.proofs.LinesRead.{IsReadTo}
-use Rattle.bound_cert.specs.Steps.{draft_of, IsReading}
-use Rattle.bound_cert.proofs.reader.read_cert.Given as goal
-
-abbrev pub invariant-loop-line : goal.invariant-loop-line
-invariant-loop-line l = IsReadTo (lines_of l.text) l.number l.line-iterator (draft_of l.reading) × IsReading l.reading

@@ -1,5 +1,0 @@
-use Rattle.bound_sound.proofs.Once.{loads_are}
-use Rattle.bound_sound.proofs.loads.loads_are_of_look_ups.Goals as goal
-
-pub returns : goal.returns
-returns c = loads_are c.steps_are_told.ensures c.loads_follow.ensures

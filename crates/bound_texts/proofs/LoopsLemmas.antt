@@ -1,0 +1,4 @@
+pub mod SplitLemmas
+pub mod NameLemmas
+pub mod ReadLemmas
+pub mod OneReading

@@ -1,0 +1,9 @@
+use Rattle.std.proofs.Common.{sym, subst}
+use Rattle.std.specs.Prelude.{IfNone}
+use Rattle.bound_texts.specs.Sources.Notes.{Note}
+use Rattle.bound_texts.specs.Sources.Meaning.{IsPlaceNote}
+use Rattle.bound_texts.proofs.sources.line.place_note.Goals as goal
+
+pub returns-in_err-bound-clause-none : goal.returns-in_err-bound-clause-none
+returns-in_err-bound-clause-none c =
+    subst (λ o. IfNone o ((n : Note) → ¬ IsPlaceNote c.args.name.now c.args.pc.now c.args.bound.now n)) (sym c.from_residual-in_err-bound.ensures) (λ n h. c.in_err-bound.ensures.none n.bound h.1)

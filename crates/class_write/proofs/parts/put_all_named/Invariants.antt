@@ -1,8 +1,0 @@
-use Rattle.std.proofs.Common.{◌≡◌, ◌++◌, length, take}
-use Rattle.std.specs.List.{flat_map}
-use Rattle.class_pool.specs.Spelling.{u2}
-use Rattle.class_pool.specs.ClassSpelling.{named_bytes}
-use Rattle.class_write.proofs.parts.put_all_named.Given as goal
-
-abbrev pub invariant-loop-a : goal.invariant-loop-a
-invariant-loop-a l = l.out.items ≡ l.fn.out.items ++ (u2 (length l.all) ++ flat_map named_bytes (take l.a-index l.all))

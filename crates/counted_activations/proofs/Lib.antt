@@ -1,6 +1,0 @@
-mod Parting
-mod Staying
-mod Holding
-mod Starting
-mod Beginning
-mod FurtherBeginning

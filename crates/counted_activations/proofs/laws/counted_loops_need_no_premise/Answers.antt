@@ -1,5 +1,0 @@
-use Rattle.counted_activations.proofs.Beginning.{need_no_premise}
-use Rattle.counted_activations.proofs.laws.counted_loops_need_no_premise.Goals as goal
-
-pub returns : goal.returns
-returns c = need_no_premise c.counted_activations_keep.ensures

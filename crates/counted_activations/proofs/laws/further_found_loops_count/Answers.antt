@@ -1,5 +1,0 @@
-use Rattle.counted_activations.proofs.FurtherBeginning.{further_found_count}
-use Rattle.counted_activations.proofs.laws.further_found_loops_count.Goals as goal
-
-pub returns : goal.returns
-returns c = further_found_count c.reducible_cycles_are_loops.ensures

@@ -1,5 +1,0 @@
-use Rattle.counted_activations.proofs.FurtherBeginning.{of_known_run}
-use Rattle.counted_activations.proofs.laws.further_loops_of_runs.Goals as goal
-
-pub returns : goal.returns
-returns c = of_known_run c.puts_keep_arrays.ensures c.boot_holds_known.ensures c.boot_holds_constants.ensures c.further_loops_need_no_premise.ensures

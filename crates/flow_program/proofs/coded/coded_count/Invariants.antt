@@ -1,5 +1,0 @@
-use Rattle.flow_program.proofs.Coding.{AllCoded}
-use Rattle.flow_program.proofs.coded.coded_count.Given as goal
-
-abbrev pub invariant-loop-number : goal.invariant-loop-number
-invariant-loop-number l = AllCoded l.program l.number

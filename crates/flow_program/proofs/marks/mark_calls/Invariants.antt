@@ -1,6 +1,0 @@
-use Rattle.std.proofs.Common.{take}
-use Rattle.flow_program.specs.Marks.{AreMarked}
-use Rattle.flow_program.proofs.marks.mark_calls.Given as goal
-
-abbrev pub invariant-loop-call : goal.invariant-loop-call
-invariant-loop-call l = AreMarked l.coded (take l.call-index l.calls) l.initial.marks.items l.marks.items

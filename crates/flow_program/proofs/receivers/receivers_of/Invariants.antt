@@ -1,5 +1,0 @@
-use Rattle.flow_program.specs.Receivers.{lists_of, AreBelow}
-use Rattle.flow_program.proofs.receivers.receivers_of.Given as goal
-
-abbrev pub invariant-loop-class : goal.invariant-loop-class
-invariant-loop-class l = AreBelow l.hierarchy l.class (lists_of l.below.items)

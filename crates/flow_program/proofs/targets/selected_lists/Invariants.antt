@@ -1,6 +1,0 @@
-use Rattle.program_tables.specs.Resolved.{resolved}
-use Rattle.flow_program.specs.Targets.{AreSelected}
-use Rattle.flow_program.proofs.targets.selected_lists.Given as goal
-
-abbrev pub invariant-loop-method : goal.invariant-loop-method
-invariant-loop-method l = AreSelected (resolved l.program) l.marks l.method l.lists.items

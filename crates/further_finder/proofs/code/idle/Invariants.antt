@@ -1,5 +1,0 @@
-use Rattle.further_finder.specs.Code.{AreIdle}
-use Rattle.further_finder.proofs.code.idle.Given as goal
-
-abbrev pub invariant-loop-node : goal.invariant-loop-node
-invariant-loop-node l = AreIdle l.parts l.node l.flags.items

@@ -1,8 +1,0 @@
-use Rattle.further_finder.specs.Rounds.{AreSized, IsFinding, left}
-use Rattle.further_finder.proofs.rounds.known_in.Given as goal
-
-abbrev pub invariant-loop-answers : goal.invariant-loop-answers
-invariant-loop-answers l = AreSized l.code l.found l.answers.items × IsFinding l.code l.found l.answers.items
-
-abbrev pub decreases-loop-answers : goal.decreases-loop-answers
-decreases-loop-answers l = left l.found

@@ -1,5 +1,0 @@
-use Rattle.further_finder.specs.Rounds.{IsRound}
-use Rattle.further_finder.proofs.rounds.round.Given as goal
-
-abbrev pub invariant-loop-line : goal.invariant-loop-line
-invariant-loop-line l = IsRound l.code l.lines l.line-index l.initial.found l.found l.initial.answers.items l.answers.items l.grown

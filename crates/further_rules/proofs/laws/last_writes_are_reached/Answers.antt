@@ -1,8 +1,0 @@
-use Rattle.further_rules.proofs.Reaching.{last_writes_are_reached, last_writes_write}
-use Rattle.further_rules.proofs.laws.last_writes_are_reached.Goals as goal
-
-pub returns-clause-reached : goal.returns-clause-reached
-returns-clause-reached c = last_writes_are_reached
-
-pub returns-clause-write : goal.returns-clause-write
-returns-clause-write c = last_writes_write

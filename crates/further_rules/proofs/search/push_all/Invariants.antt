@@ -1,6 +1,0 @@
-use Rattle.std.proofs.Common.{◌≡◌, ◌++◌, map, take}
-use Rattle.further_rules.specs.Search.{back_from}
-use Rattle.further_rules.proofs.search.push_all.Given as goal
-
-abbrev pub invariant-loop-node : goal.invariant-loop-node
-invariant-loop-node l = l.stack.items ≡ l.initial.stack.items ++ map (back_from l.backs) (take l.node-index l.nodes)

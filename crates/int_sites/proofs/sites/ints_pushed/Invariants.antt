@@ -1,8 +1,0 @@
-use Rattle.std.proofs.Common.{◌≡◌, length, take}
-use Rattle.program_tables.specs.Resolved.{resolved}
-use Rattle.int_sites.specs.Places.{AreIntsOf}
-use Rattle.int_sites.specs.Rows.{pushed_at}
-use Rattle.int_sites.proofs.sites.ints_pushed.Given as goal
-
-abbrev pub invariant-loop-place : goal.invariant-loop-place
-invariant-loop-place l = (length l.ints.items ≡ length l.code) × AreIntsOf (pushed_at (resolved l.program) l.method) (take l.place-index l.starts) l.ints.items

@@ -1,8 +1,0 @@
-use Rattle.std.proofs.Common.{take}
-use Rattle.program_tables.specs.Resolved.{resolved}
-use Rattle.int_sites.specs.Places.{AreLeft}
-use Rattle.int_sites.specs.Rows.{put_at}
-use Rattle.int_sites.proofs.sites.take_written.Given as goal
-
-abbrev pub invariant-loop-place : goal.invariant-loop-place
-invariant-loop-place l = AreLeft (put_at (resolved l.program) l.method) (take l.place-index l.starts) l.initial.constants.items l.constants.items

@@ -1,0 +1,4 @@
+pub mod Coded
+pub mod Filled
+pub mod Places
+pub mod Ended

@@ -1,5 +1,0 @@
-use Rattle.std.proofs.Common.{refl}
-use Rattle.line_tables.proofs.laws.examples.Goals as goal
-
-pub returns : goal.returns
-returns c = record { two = refl; short = refl; long = refl; empty = refl; between = refl; there = refl; turned = refl; before = refl; twice = refl; folder = refl; unnamed = refl }

@@ -1,6 +1,0 @@
-use Rattle.std.proofs.Common.{◌≡◌, ◌≤◌, take}
-use Rattle.line_tables.specs.Source.{folder_in}
-use Rattle.line_tables.proofs.source.folder_in.Given as goal
-
-abbrev pub invariant-loop-i : goal.invariant-loop-i
-invariant-loop-i l = (l.length ≤ l.i) × (take l.length l.name ≡ folder_in (take l.i l.name))

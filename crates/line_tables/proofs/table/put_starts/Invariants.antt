@@ -1,8 +1,0 @@
-use Rattle.std.proofs.Common.{◌≡◌, ℕ, ◌<◌, length, take, slice_index_or, None}
-use Rattle.std.specs.List.{flat_map}
-use Rattle.line_tables.specs.Lines.{starts_by}
-use Rattle.line_tables.specs.Table.{last_at}
-use Rattle.line_tables.proofs.table.put_starts.Given as goal
-
-abbrev pub invariant-loop-name : goal.invariant-loop-name
-invariant-loop-name l = (place : ℕ) → place < length l.lines → slice_index_or l.lines place None ≡ last_at place (flat_map (starts_by l.pool) (take l.name-index l.code.attributes))

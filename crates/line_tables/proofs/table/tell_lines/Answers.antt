@@ -1,8 +1,0 @@
-use Rattle.std.proofs.Common.{◌∙◌, arith}
-use Rattle.line_tables.specs.Lines.{starts_of}
-use Rattle.line_tables.proofs.PlaceLemmas.{carried_line}
-use Rattle.line_tables.proofs.table.tell_lines.Goals as goal
-
-pub returns : goal.returns
-returns c place within =
-    c.carry.ensures place within ∙ carried_line c.put_starts.new.lines (starts_of c.args.pool.now c.args.code.now) place (omega (arith, within, c.carry.auto.lines)) c.put_starts.ensures

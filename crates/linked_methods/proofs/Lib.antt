@@ -1,4 +1,0 @@
-mod Coded
-mod Filled
-mod Places
-mod Ended

@@ -1,7 +1,0 @@
-use Rattle.std.proofs.Common.{ℕ, ◌<◌}
-use Rattle.program_tables.specs.Resolved.{resolved}
-use Rattle.linked_methods.specs.Fitting.{MethodFits}
-use Rattle.linked_methods.proofs.fitting.first_too_long.Given as goal
-
-abbrev pub invariant-loop-number : goal.invariant-loop-number
-invariant-loop-number l = (m : ℕ) → m < l.number → MethodFits (resolved l.program) l.blocks l.block_words m

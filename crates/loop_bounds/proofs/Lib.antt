@@ -1,4 +1,0 @@
-pub mod SplitLemmas
-pub mod NameLemmas
-pub mod ReadLemmas
-mod OneReading

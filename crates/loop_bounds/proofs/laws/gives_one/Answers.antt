@@ -1,5 +1,0 @@
-use Rattle.loop_bounds.proofs.OneReading as law
-use Rattle.loop_bounds.proofs.laws.gives_one.Goals as goal
-
-pub returns : goal.returns
-returns c = law.gives_one

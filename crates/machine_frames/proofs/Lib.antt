@@ -1,5 +1,0 @@
-mod Options
-mod Stack
-mod Known
-mod Standing
-mod Walking

@@ -1,0 +1,5 @@
+pub mod Options
+pub mod Stack
+pub mod Known
+pub mod Standing
+pub mod Walking

@@ -1,4 +1,0 @@
-mod Telling
-mod Growing
-mod Words
-mod Places

@@ -1,5 +1,0 @@
-use Rattle.method_names.proofs.ReadBack.{alike_are_one}
-use Rattle.method_names.proofs.laws.written_alike_are_one.Goals as goal
-
-pub returns : goal.returns
-returns c = alike_are_one

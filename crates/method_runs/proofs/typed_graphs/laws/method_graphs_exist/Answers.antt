@@ -1,0 +1,5 @@
+use Rattle.method_runs.proofs.TypedGraphsLemmas.Existing.{method_graphs_exist}
+use Rattle.method_runs.proofs.typed_graphs.laws.method_graphs_exist.Goals as goal
+
+pub returns : goal.returns
+returns c = method_graphs_exist c.starts_follow_one_another.ensures

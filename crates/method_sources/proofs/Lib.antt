@@ -1,2 +1,0 @@
-pub mod BodyLemmas
-mod LineLemmas

@@ -1,0 +1,4 @@
+pub mod Telling
+pub mod Growing
+pub mod Words
+pub mod Places

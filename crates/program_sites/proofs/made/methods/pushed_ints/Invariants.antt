@@ -1,0 +1,7 @@
+use Rattle.std.proofs.Common.{take}
+use Rattle.program_tables.specs.Resolved.{resolved}
+use Rattle.program_sites.specs.Made.Lines.{ArePushedAt}
+use Rattle.program_sites.proofs.made.methods.pushed_ints.Given as goal
+
+abbrev pub invariant-loop-place : goal.invariant-loop-place
+invariant-loop-place l = ArePushedAt (resolved l.program) l.m (take l.place-index l.places) l.pushed.items

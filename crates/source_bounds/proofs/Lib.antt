@@ -1,5 +1,0 @@
-pub mod SourceLemmas
-pub mod LineLemmas
-pub mod NameLemmas
-pub mod ReadLemmas
-mod OneReading

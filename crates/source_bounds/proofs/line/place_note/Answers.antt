@@ -1,9 +1,0 @@
-use Rattle.std.proofs.Common.{sym, subst}
-use Rattle.std.specs.Prelude.{IfNone}
-use Rattle.source_bounds.specs.Notes.{Note}
-use Rattle.source_bounds.specs.Meaning.{IsPlaceNote}
-use Rattle.source_bounds.proofs.line.place_note.Goals as goal
-
-pub returns-in_err-bound-clause-none : goal.returns-in_err-bound-clause-none
-returns-in_err-bound-clause-none c =
-    subst (λ o. IfNone o ((n : Note) → ¬ IsPlaceNote c.args.name.now c.args.pc.now c.args.bound.now n)) (sym c.from_residual-in_err-bound.ensures) (λ n h. c.in_err-bound.ensures.none n.bound h.1)

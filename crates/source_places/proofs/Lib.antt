@@ -1,0 +1,2 @@
+pub mod TablesLemmas
+pub mod MethodsLemmas

@@ -1,6 +1,0 @@
-pub mod Marks
-pub mod Inserting
-pub mod Peeling
-pub mod Ranks
-pub mod UpwardLemmas
-pub mod MarkLemmas

@@ -1,6 +1,0 @@
-use Rattle.std.proofs.Common.{◌++◌, take}
-use Rattle.upward_sets.specs.Numbers.{IsSameSearch}
-use Rattle.upward_sets.proofs.marked.MarkedSet.insert_all.Given as goal
-
-abbrev pub invariant-loop-number : goal.invariant-loop-number
-invariant-loop-number l = IsSameSearch l.self (l.initial.self ++ take l.number-index l.numbers)

@@ -1,9 +1,0 @@
-use Rattle.std.proofs.Common.{◌-◌, length}
-use Rattle.upward_sets.specs.Numbers.{IsPeeled}
-use Rattle.upward_sets.proofs.peel.order_of.Given as goal
-
-abbrev pub invariant-loop-hint : goal.invariant-loop-hint
-invariant-loop-hint l = IsPeeled l.above l.order
-
-abbrev pub decreases-loop-hint : goal.decreases-loop-hint
-decreases-loop-hint l = length l.above - length l.order

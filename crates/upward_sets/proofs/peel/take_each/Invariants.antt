@@ -1,5 +1,0 @@
-use Rattle.upward_sets.specs.Numbers.{IsPeeled}
-use Rattle.upward_sets.proofs.peel.take_each.Given as goal
-
-abbrev pub invariant-loop-number : goal.invariant-loop-number
-invariant-loop-number l = IsPeeled l.above l.order

@@ -1,4 +1,0 @@
-use Rattle.walk_counts.proofs.rounds.add_walk.Given as goal
-
-abbrev pub ghost-add_path : goal.ghost-add_path
-ghost-add_path a = a.q.now.found.now.topology.order.items

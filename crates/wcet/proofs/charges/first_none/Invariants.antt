@@ -1,6 +1,0 @@
-use Rattle.std.proofs.Common.{take}
-use Rattle.wcet.specs.Prepared.{AreAllSome}
-use Rattle.wcet.proofs.charges.first_none.Given as goal
-
-abbrev pub invariant-loop-i : goal.invariant-loop-i
-invariant-loop-i l = AreAllSome (take l.i l.found)

@@ -1,5 +1,0 @@
-use Rattle.wcet.proofs.Turning.{costs_are_limited}
-use Rattle.wcet.proofs.laws.costs_are_limited.Goals as goal
-
-pub returns : goal.returns
-returns c = costs_are_limited c.starts_follow_one_another.ensures c.rows_are_of_their_kinds.ensures

@@ -1,8 +1,0 @@
-use Rattle.wcet.proofs.Agreeing.{all_agree, known_are_numbers}
-use Rattle.wcet.proofs.laws.known_are_numbers.Goals as goal
-
-pub returns-clause-agree : goal.returns-clause-agree
-returns-clause-agree c = all_agree
-
-pub returns-clause-known : goal.returns-clause-known
-returns-clause-known c = known_are_numbers
