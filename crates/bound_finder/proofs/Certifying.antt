@@ -1,8 +1,10 @@
 -- The certificate of the root, once all methods of its order are found.
 use Rattle.std.proofs.Common.{◌≡◌, ℕ, ◌<◌, ◌^◌, List, [], ◌∷◌, map, length, get_or, Contains, Option, Some, None, refl, sym, ap, ◌∙◌, subst, inr, arith}
-use Rattle.std.specs.Prelude.{AllPairs, IfSome, IfNone}
+use Rattle.std.specs.Prelude.{AllPairs, IfSome, IfNone, IsSome}
 use Rattle.std.proofs.lemmas.Bool.{false≢true}
 use Rattle.std.proofs.lemmas.List.{get_or-map, length-map}
+use Rattle.std.proofs.lemmas.List.Elements.{All-contains}
+use Rattle.lists.specs.Members.{map_contains}
 use Rattle.method_cache.specs.Regions.Region.{AreDistinct}
 use Rattle.section_check.specs.Least.{IsLeast}
 use Rattle.section_check.proofs.LeastLemmas.{least_same}
@@ -23,7 +25,8 @@ use Rattle.compact_walks.specs.Limited.{cycles_limit}
 use Rattle.bound_finder.specs.declared.known.Known.{Known}
 use Rattle.bound_finder.specs.declared.methods.Methods.{Methods}
 use Rattle.bound_finder.specs.Known.{BoundSetting, bounds_in, ForEach, known_at, IsKnownOf}
-use Rattle.bound_finder.specs.Methods.{IsLargeAmong, values_by}
+use Rattle.bound_finder.specs.Certified.{AreEmptyIfEndless}
+use Rattle.bound_finder.specs.Methods.{IsEmptyIfEndless, IsLargeAmong, values_by}
 use Rattle.bound_finder.specs.Ending.{IsPrintedSmall, IsLargeWithin, AreSmallWithin, AreKnownWithin, AreReadyFound}
 use Rattle.bound_finder.specs.Ready.{AreBehindCalls, IsWantOfMemory, IsSizeCause}
 use Rattle.bound_finder.proofs.MoreFound.{value_found}
@@ -113,6 +116,17 @@ module _ (set : BoundSetting) (root : ℕ) (a : Methods) (h : AreReadyFound set 
       says = says_root P of (all_small P set.timing (bounds_in set) table a.least root (root_known inside P of) none);
       right = record { printed = printed.printed P of; small = at_most bound printed.within };
     }
+
+    pub are_empty : (P : Program) → IsFlowOf P set.flow → AreEmptyIfEndless P a.sections.items
+    are_empty P of s has endless =
+        let C : List ℕ → Type 0 = λ xs. Contains xs s.method in
+        let among : Contains h.order s.method = subst C (at_none none _ h.found.methods) (map_contains (λ (x : CertSection). x.method) a.sections.items s has) in
+        let told = (h.found.known P of (h.ready P of).order.first s.method among).told in
+        All-contains (IsEmptyIfEndless table) a.sections.items s (at_none none _ h.found.empty) has (none_of (known_at table s.method).asked (λ some. endless (told.asked.0 some)))
+      where
+        none_of : (o : Option ℕ) → ¬ IsSome o → o ≡ None
+        none_of None never = refl
+        none_of (Some n) never = absurd (never refl)
 
 -- ---- want of memory
 

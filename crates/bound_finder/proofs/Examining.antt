@@ -1,5 +1,5 @@
 -- What is found of a method by its walks is what is said of it for each program of the table.
-use Rattle.std.proofs.Common.{◌≡◌, ◌≢◌, ℕ, ◌+◌, ◌^◌, ◌<◌, Bool, true, false, List, All, Option, Some, None, refl, sym, ap, ◌∙◌, inl, inr, arith}
+use Rattle.std.proofs.Common.{◌≡◌, ◌≢◌, ℕ, ◌+◌, ◌^◌, ◌<◌, Bool, true, false, List, [], All, Option, Some, None, refl, sym, ap, ◌∙◌, inl, inr, arith}
 use Rattle.std.specs.Prelude.{IfSome, slice_get}
 use Rattle.std.proofs.lemmas.Bool.{cases_lt}
 use Rattle.lists.proofs.Lemmas.{none≢some}
@@ -53,6 +53,18 @@ module _ (m : ℕ) (p : Prepared) (fit : Fit) where
   found_some (Shown value s) e = some_if (known_by fit value false).too_large (section_by m fit s) e
   found_some (Large value) e = absurd (let bad : true ≡ false = e in cc)
 
+-- a section that is there is so
+if_there : (large : Bool) (s : CertSection) (K : CertSection → Type 0) → K s → IfSome (section_unless large s) K
+if_there true s K k = tt
+if_there false s K k = k
+
+-- that of a method that can't end lists no node
+found_empty : (m : ℕ) (fit : Fit) (walked : Walked) → IfSome (found_by m fit walked).section (λ s. (found_by m fit walked).known.asked ≡ None → s.section.nodes ≡ [])
+found_empty m fit Never = λ e. refl
+found_empty m fit (Shown value s) =
+    if_there (known_by fit value false).too_large (section_by m fit s) (λ x. (known_by fit value false).asked ≡ None → x.section.nodes ≡ []) (λ e. absurd (none≢some value (sym e)))
+found_empty m fit (Large value) = tt
+
 -- what holds of the section for each program holds of it for all of them
 for_each : (set : BoundSetting) (table : List Known) (m : ℕ) (o : Option CertSection) (K : CertSection → Type 0) (L : Program → CertSection → Type 0) → IfSome o K
     → ForEach set (λ P. CalleesAreKnown P set.timing table m → IfSome o (L P)) → IfSome o (λ s. K s × ForEach set (λ P. CalleesAreKnown P set.timing table m → L P s))
@@ -83,6 +95,7 @@ found_of known_is shows in_text set table m k p fit walked waits at c method siz
   known = λ P of told. known_is (method_with set table m k p fit walked P) (record { flow = of; at = at; coded = c; callees = told; shape = in_shape; prepared = prepared P of told; fits = same; walked = w }) waits.read waits.write limited (fits P of);
   none = found_none m p fit walked;
   some = found_some m p fit walked;
+  empty = found_empty m fit walked;
   section =
       for_each set table m (found_by m fit walked).section (IsSectionOf m (found_by m fit walked).known) (λ P. ShowsNumber P set.timing (bounds_in set) table m (found_by m fit walked).known)
       (in_text (bounds_in set) m p fit walked method (let less = size in omega arith) in_shape bounds same w)

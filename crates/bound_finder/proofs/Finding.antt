@@ -6,6 +6,7 @@ use Rattle.std.proofs.lemmas.List.Elements.{All-replicate}
 use Rattle.std.proofs.lemmas.Option.{slice_get-get_or, slice_get_within, get_or_from_slice_get}
 use Rattle.lists.specs.Members.{nil_contains}
 use Rattle.section_check.specs.Least.{IsLeast}
+use Rattle.certificates.specs.declared.lines.line.SectionKind.TheVariants.{Alone}
 use Rattle.certificates.specs.declared.cert.CertSection.{CertSection}
 use Rattle.certificates.specs.Certificate.{IsSectionInText}
 use Rattle.bound_rules.specs.Conditions.{MeetAll}
@@ -20,7 +21,7 @@ use Rattle.bound_finder.specs.declared.methods.Methods.{Methods}
 use Rattle.bound_finder.specs.declared.shape.Shape.{Shape}
 use Rattle.bound_finder.specs.Known.{BoundSetting, bounds_in, ForEach, unknown, IsLimited, CalleesAreKnown}
 use Rattle.bound_finder.specs.Laws.{ReadyHasShape}
-use Rattle.bound_finder.specs.Methods.{values_by, IsLargeAmong, AreMethodsFound, IsUnready}
+use Rattle.bound_finder.specs.Methods.{values_by, IsEmptyIfEndless, IsLargeAmong, AreMethodsFound, IsUnready}
 use Rattle.bound_finder.specs.Prepared.{IsShapeOf, IsLeftBy, IsUnbounded}
 use Rattle.bound_finder.specs.Ready.{AreBehindCalls, AreReady, IsWantOfMemory}
 
@@ -35,7 +36,10 @@ none_found st n a table least sections long =
     let T : List Known → Type 0 = λ tb. All IsLimited tb in
     let O : Option ℕ → Type 0 = λ o. IsLeast (IsLargeAmong a.table.items []) o in
     let S : List CertSection → Type 0 = λ ss. All (IsSectionInText 2) ss in
+    let K : List CertSection → Type 0 = λ ss. All (λ (s : CertSection). s.kind ≡ Alone → ⊥) ss in
     let M : List CertSection → Type 0 = λ ss. IfNone none (map (λ (s : CertSection). s.method) ss ≡ []) in
+    let E : List CertSection → Type 0 = λ ss. IfNone none (All (IsEmptyIfEndless a.table.items) ss) in
+    let F : Option ℕ → Type 0 = λ o. IfNone o (All (IsEmptyIfEndless a.table.items) a.sections.items) in
     let A : List CertSection → Type 0 = λ ss. IfNone none (ForEach st (λ P. AreBehindCalls P [] → MeetAll P st.timing (bounds_in st) [] ss (values_by a.table.items []))) in
     let N : Option ℕ → Type 0 = λ o. IfNone o (map (λ (s : CertSection). s.method) a.sections.items ≡ []) in
     let B : Option ℕ → Type 0 = λ o. IfNone o (ForEach st (λ P. AreBehindCalls P [] → MeetAll P st.timing (bounds_in st) [] a.sections.items (values_by a.table.items []))) in
@@ -46,7 +50,9 @@ none_found st n a table least sections long =
       shown = λ P of behind m has. absurd (nil_contains m has);
       least = subst O (sym least) (λ u large. nil_contains u large.0);
       in_text = subst S (sym sections) (λ i d lt. absurd (omega arith));
+      kinds = subst K (sym sections) (λ i d lt. absurd (omega arith));
       methods = subst N (sym least) (subst M (sym sections) refl);
+      empty = subst F (sym least) (subst E (sym sections) (λ i d lt. absurd (omega arith)));
       meet = subst B (sym least) (subst A (sym sections) (λ P of behind. refl));
     }
 

@@ -1,15 +1,16 @@
 -- What is found of methods, with one more behind them.
-use Rattle.std.proofs.Common.{◌≡◌, ◌⊎◌, ℕ, ◌<◌, Bool, true, false, ◌&&◌, ◌==◌, List, [], ◌∷◌, ◌++◌, map, length, set, Contains, Option, Some, None, refl, sym, ap, ◌∙◌, subst, inl, inr, arith}
+use Rattle.std.proofs.Common.{◌≡◌, ◌⊎◌, ℕ, ◌<◌, Bool, true, false, ◌&&◌, ◌==◌, List, [], ◌∷◌, ◌++◌, map, length, get_or, set, Contains, Option, Some, None, refl, sym, ap, ◌∙◌, subst, inl, inr, arith}
 use Rattle.std.specs.Prelude.{All, IfNone, if◌then◌else◌}
 use Rattle.std.proofs.lemmas.Bool.{cases_eq, eq-eqb, ne_eqb, cond-true, cond-false, false≢true}
 use Rattle.std.proofs.lemmas.List.{length-set, map-append}
-use Rattle.std.proofs.lemmas.List.Elements.{All-set, All-push, Contains-push, Contains-push_cases, Contains-append_left}
+use Rattle.std.proofs.lemmas.List.Elements.{All-set, All-push, Contains-get_or, Contains-push, Contains-push_cases, Contains-append_left}
 use Rattle.std.specs.Cmp.Derive.{both_true}
 use Rattle.lists.proofs.Lemmas.{if_at}
-use Rattle.lists.specs.Members.{cons_cases, nil_contains}
+use Rattle.lists.specs.Members.{cons_cases, nil_contains, map_contains}
 use Rattle.section_check.specs.Least.{IsLeast, lesser_of}
 use Rattle.section_check.proofs.LeastLemmas.{least_same, least_either}
 use Rattle.bytecode_model.specs.Program.{Program}
+use Rattle.certificates.specs.declared.lines.line.SectionKind.TheVariants.{Alone}
 use Rattle.certificates.specs.declared.cert.CertSection.{CertSection}
 use Rattle.certificates.specs.Certificate.{IsSectionInText, is_inside}
 use Rattle.method_flow.specs.Flow.{IsFlowOf}
@@ -22,7 +23,7 @@ use Rattle.bound_finder.specs.declared.found.Found.{Found}
 use Rattle.bound_finder.specs.declared.methods.Methods.{Methods}
 use Rattle.bound_finder.specs.Known.{BoundSetting, bounds_in, ForEach, known_at, IsLimited, CalleesAreKnown, IsKnownOf}
 use Rattle.bound_finder.specs.Found.{kind_of, Cover, ShowsNumber, IsSectionOf, HasSection, IsFoundOf}
-use Rattle.bound_finder.specs.Methods.{values_by, IsLargeAmong, AreMethodsFound, AddsMethod}
+use Rattle.bound_finder.specs.Methods.{values_by, IsEmptyIfEndless, IsLargeAmong, AreMethodsFound, AddsMethod}
 use Rattle.bound_finder.specs.Ready.{AreBehindCalls}
 use Rattle.bound_finder.proofs.Growing.{known_same, known_new, known_stays, section_stays, values_same, front_behind, last_behind, called_before}
 
@@ -53,6 +54,10 @@ value_found table x (y ∷ ys) has =
 pub kind_is_inside : (b : Bool) → is_inside (kind_of b) ≡ b
 kind_is_inside true = refl
 kind_is_inside false = refl
+
+of_regions : (b : Bool) → kind_of b ≡ Alone → ⊥
+of_regions true e = absurd (cc)
+of_regions false e = absurd (cc)
 
 -- the value of a section, by what is known of the method
 pub section_says : (m : ℕ) (k : Known) (s : CertSection) → IsSectionOf m k s → record { method = m; inside = k.fits; value = k.asked } ≡ section_value s k.asked
@@ -118,6 +123,11 @@ section_cases m k o none some = by k.too_large refl o refl
     by false e None is = absurd (some e is)
     by false e (Some s) is = inr (e, (s, is))
 
+-- what follows of two facts that hold where there is none
+both_none : (o : Option ℕ) (X Y Z : Type 0) → (X → Y → Z) → IfNone o X → IfNone o Y → IfNone o Z
+both_none None X Y Z f x y = f x y
+both_none (Some n) X Y Z f x y = tt
+
 some_is_none : (o : Option ℕ) (m : ℕ) (X : Type 0) → IfNone (lesser_of o (Some m)) X
 some_is_none None m X = tt
 some_is_none (Some n) m X = tt
@@ -182,6 +192,22 @@ module _ (one_more : OneMoreMeets) (st : BoundSetting) (done : List ℕ) (m : �
         map-append (λ (x : CertSection). x.method) old.sections.items (s ∷ [])
         ∙ (ap (λ (xs : List ℕ). xs ++ s.method ∷ []) e ∙ ap (λ (x : ℕ). done ++ x ∷ []) section_is.method)
 
+    -- those of methods that can't end list no node
+    empty_here : IsEmptyIfEndless (set table m k) s
+    empty_here = λ none.
+        let at = ap (λ (x : ℕ). (known_at (set table m k) x).asked) section_is.method ∙ ap (λ (o : Known). o.asked) (known_new table m k inside) in
+        if_at found.section s (λ s. k.asked ≡ None → s.section.nodes ≡ []) some is.empty (sym at ∙ none)
+
+    empty_before : map (λ (x : CertSection). x.method) old.sections.items ≡ done → All (IsEmptyIfEndless table) old.sections.items → All (IsEmptyIfEndless (set table m k)) old.sections.items
+    empty_before e all i d lt = λ none.
+        let x = get_or old.sections.items i d in
+        let among = map_contains (λ (y : CertSection). y.method) old.sections.items x (Contains-get_or old.sections.items i d lt) in
+        let has : Contains done x.method = (let C : List ℕ → Type 0 = λ xs. Contains xs x.method in subst C e among) in
+        all i d lt (sym (ap (λ (o : Known). o.asked) (known_same table m x.method k (unmet x.method has))) ∙ none)
+
+    empty_more : map (λ (x : CertSection). x.method) old.sections.items ≡ done → All (IsEmptyIfEndless table) old.sections.items → All (IsEmptyIfEndless (set table m k)) (old.sections.items ++ s ∷ [])
+    empty_more e all = All-push (IsEmptyIfEndless (set table m k)) old.sections.items s (empty_before e all) empty_here
+
   -- the section of an earlier one
   shown_before : (P : Program) → IsFlowOf P st.flow → AreBehindCalls P (done ++ m ∷ []) → (x : ℕ) → Contains done x → (known_at (set table m k) x).too_large ≡ false
       → HasSection P st.timing (bounds_in st) (set table m k) x (known_at (set table m k) x)
@@ -219,7 +245,9 @@ module _ (one_more : OneMoreMeets) (st : BoundSetting) (done : List ℕ) (m : �
   abbrev With : (tb : List Known) (o : Option ℕ) (ss : List CertSection) → Type 0
   With tb o ss = IsLeast (IsLargeAmong tb (done ++ m ∷ [])) o
       × All (IsSectionInText 2) ss
+      × All (λ (x : CertSection). x.kind ≡ Alone → ⊥) ss
       × IfNone o (map (λ (x : CertSection). x.method) ss ≡ done ++ m ∷ [])
+      × IfNone o (All (IsEmptyIfEndless tb) ss)
       × IfNone o (ForEach st (λ P. AreBehindCalls P (done ++ m ∷ []) → MeetAll P st.timing (bounds_in st) [] ss (values_by tb (done ++ m ∷ []))))
 
   moved : (o p : Option ℕ) (ss ts : List CertSection) → o ≡ p → ss ≡ ts → With (set table m k) p ts → With new.table.items o ss
@@ -234,13 +262,13 @@ module _ (one_more : OneMoreMeets) (st : BoundSetting) (done : List ℕ) (m : �
       let I : Option CertSection → Type 0 = λ o. IfNone o ((new.sections.items ≡ old.sections.items) × (new.least ≡ lesser_of old.least (Some m))) in
       let now : (new.sections.items ≡ old.sections.items) × (new.least ≡ lesser_of old.least (Some m)) = subst I none adds.none in
       moved new.least (lesser_of old.least (Some m)) new.sections.items old.sections.items now.1 now.0
-      (least_large table done m k inside apart old.least large h.least, h.in_text, some_is_none old.least m _, some_is_none old.least m _)
+      (least_large table done m k inside apart old.least large h.least, h.in_text, h.kinds, some_is_none old.least m _, some_is_none old.least m _, some_is_none old.least m _)
 
   with_some : k.too_large ≡ false → (s : CertSection) → found.section ≡ Some s → With new.table.items new.least new.sections.items
   with_some small s some =
       let now = if_at found.section s (λ s. (new.sections.items ≡ old.sections.items ++ s ∷ []) × (new.least ≡ old.least)) some adds.some in
       moved new.least old.least new.sections.items (old.sections.items ++ s ∷ []) now.1 now.0
-      (least_small table done m k inside apart old.least small h.least, All-push (IsSectionInText 2) old.sections.items s h.in_text (section_is s some).in_text, if_none old.least _ _ (methods_more s some) h.methods, if_none old.least _ _ (λ meet P of behind. meet_more s some P of behind (meet P of (front_behind P done m behind))) h.meet)
+      (least_small table done m k inside apart old.least small h.least, All-push (IsSectionInText 2) old.sections.items s h.in_text (section_is s some).in_text, All-push (λ (x : CertSection). x.kind ≡ Alone → ⊥) old.sections.items s h.kinds (λ e. of_regions k.fits (sym (section_is s some).kind ∙ e)), if_none old.least _ _ (methods_more s some) h.methods, both_none old.least _ _ _ (empty_more s some) h.methods h.empty, if_none old.least _ _ (λ meet P of behind. meet_more s some P of behind (meet P of (front_behind P done m behind))) h.meet)
 
   all_with : With new.table.items new.least new.sections.items
   all_with =
@@ -262,6 +290,8 @@ module _ (one_more : OneMoreMeets) (st : BoundSetting) (done : List ℕ) (m : �
         shown = subst H (sym adds.table) shown_all;
         least = w.0;
         in_text = w.1;
-        methods = w.2;
-        meet = w.3;
+        kinds = w.2;
+        methods = w.3;
+        empty = w.4;
+        meet = w.5;
       }

@@ -139,3 +139,4 @@ pub record IsFoundOf (set : BoundSetting) (table : List Known) (m : ℕ) (f : Fo
   pub some : f.known.too_large ≡ false → f.section ≢ None
   pub section : IfSome f.section (λ s. IsSectionOf m f.known s
       × ForEach set (λ P. CalleesAreKnown P set.timing table m → ShowsNumber P set.timing (bounds_in set) table m f.known s))
+  pub empty : IfSome f.section (λ s. f.known.asked ≡ None → s.section.nodes ≡ [])

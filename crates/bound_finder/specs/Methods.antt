@@ -1,6 +1,8 @@
 -- What is found of all methods that may run, targets first, and what is answered then.
-use Rattle.std.specs.Prelude.{◌≡◌, ℕ, true, false, List, [], ◌∷◌, length, map, All, Contains, Some, IfNone, IfSome, ◌++◌, slice_set}
+use Rattle.std.specs.Prelude.{◌≡◌, ◌≢◌, ℕ, true, false, List, [], ◌∷◌, length, map, All, Contains, Some, None, IfNone, IfSome, ◌++◌, slice_set}
 use Rattle.section_check.specs.Least.{IsLeast, lesser_of}
+use Rattle.certificates.specs.declared.lines.line.SectionKind.TheVariants.{Alone}
+use Rattle.certificates.specs.declared.cert.CertSection.{CertSection}
 use Rattle.certificates.specs.Certificate.{IsSectionInText}
 use Rattle.bound_rules.specs.declared.faults.BoundRefusal.{BoundRefusal}
 use Rattle.bound_rules.specs.Told.{Valued}
@@ -21,6 +23,10 @@ values_by table ms = map (λ m. record { method = m; inside = (known_at table m)
 abbrev pub IsLargeAmong : List Known → List ℕ → ℕ → Type 0
 IsLargeAmong table ms m = Contains ms m × ((known_at table m).too_large ≡ true)
 
+-- the section lists no node where it is known of its method that it can't end
+abbrev pub IsEmptyIfEndless : List Known → CertSection → Type 0
+IsEmptyIfEndless table s = (known_at table s.method).asked ≡ None → s.section.nodes ≡ []
+
 -- Of the methods that were looked at: what is known of each, and that each with no number that is too large has a section; the least with one that is,
 -- and where there is none the sections of all, which meet their conditions one behind the other.
 pub record AreMethodsFound (set : BoundSetting) (done : List ℕ) (a : Methods) : Type 0 where
@@ -32,7 +38,9 @@ pub record AreMethodsFound (set : BoundSetting) (done : List ℕ) (a : Methods) 
       → HasSection P set.timing (bounds_in set) a.table.items m (known_at a.table.items m))
   pub least : IsLeast (IsLargeAmong a.table.items done) a.least
   pub in_text : All (IsSectionInText 2) a.sections.items
+  pub kinds : All (λ s. s.kind ≢ Alone) a.sections.items
   pub methods : IfNone a.least (map (λ s. s.method) a.sections.items ≡ done)
+  pub empty : IfNone a.least (All (IsEmptyIfEndless a.table.items) a.sections.items)
   pub meet : IfNone a.least (ForEach set (λ P. AreBehindCalls P done → MeetAll P set.timing (bounds_in set) [] a.sections.items (values_by a.table.items done)))
 
 -- what is found of one method more

@@ -1,10 +1,12 @@
 //! What is answered of a method, once all that may run while it does is found.
-ghost use Rattle.std.specs.Prelude.{◌≡◌, ◌<◌, ◌≤◌, length, Some, IfNone, IfOk, IfErr, IfSome};
+ghost use Rattle.std.specs.Prelude.{◌≡◌, ◌≢◌, ◌<◌, ◌≤◌, length, All, Some, IfNone, IfOk, IfErr, IfSome};
+ghost use Rattle.certificates.specs.declared.lines.line.SectionKind.TheVariants.{Alone};
 ghost use Rattle.certificates.specs.Certificate.{IsInGrammar};
 ghost use Rattle.bound_rules.specs.Bounding.{KeepSize};
 ghost use Rattle.bound_rules.specs.Conditions.{MeetsConditions};
 ghost use Rattle.bound_rules.specs.Numbers.{IsPrinted};
 ghost use Rattle.compact_walks.specs.Limited.{cycles_limit};
+ghost use Rattle.bound_finder.specs.Certified.{AreEmptyIfEndless};
 ghost use Rattle.bound_finder.specs.Ending.{AreKnownWithin, AreReadyFound, IsMethodBound, IsPastLimit, IsPrintedBy, IsPrintedSmall};
 ghost use Rattle.bound_finder.specs.Known.{bounds_in, ForEach};
 ghost use Rattle.bound_finder.specs.Ready.{IsSizeCause};
@@ -87,6 +89,8 @@ pub fn certificate(task: &Task<'_>, root: u32, all: Methods) -> Result<Cert, Bou
     requires found { AreReadyFound task.now root all }
     ensures grammar { IfOk result (λ c. IsInGrammar c × (c.version ≡ 2) × (c.root ≡ root)) }
     ensures meets { IfOk result (λ c. ForEach task.now (λ P. MeetsConditions P task.now.timing (bounds_in task.now) c)) }
+    ensures kinds { IfOk result (λ c. All (λ s. s.kind ≢ Alone) c.sections) }
+    ensures empty { IfOk result (λ c. ForEach task.now (λ P. AreEmptyIfEndless P c.sections)) }
     ensures printed { IfOk result (λ c. ForEach task.now (λ P. IsPrinted P task.now.timing (bounds_in task.now) root c.bound)) }
     ensures kept { IfOk result (λ _. ForEach task.now (λ P. KeepSize P task.now.timing (bounds_in task.now) root)) }
     ensures cause { IfErr result (λ e. ForEach task.now (λ P. IsSizeCause P task.now.timing (bounds_in task.now) root e)) }

@@ -2,16 +2,18 @@
 //! it does, targets first, and a certificate that shows them.
 #![tactic(auto)]
 
-ghost use Rattle.std.specs.Prelude.{◌≡◌, ◌≤◌, ◌<◌, ℕ, length, All, IfOk, IfErr, Some, slice_get};
+ghost use Rattle.std.specs.Prelude.{◌≡◌, ◌≢◌, ◌≤◌, ◌<◌, ℕ, length, All, IfOk, IfErr, Some, slice_get};
 ghost use Rattle.bytecode_model.specs.Program.{Program};
 ghost use Rattle.method_cache.specs.Regions.Region.{AreDistinct};
 ghost use Rattle.method_flow.specs.Flow.{IsFlowOf};
 ghost use Rattle.node_costs.specs.Costs.{bounds_of};
+ghost use Rattle.certificates.specs.declared.lines.line.SectionKind.TheVariants.{Alone};
 ghost use Rattle.certificates.specs.Certificate.{IsInGrammar};
 ghost use Rattle.bound_rules.specs.Bounding.{KeepSize};
 ghost use Rattle.bound_rules.specs.Conditions.{MeetsConditions};
 ghost use Rattle.bound_rules.specs.Numbers.{IsPrinted};
 ghost use Rattle.bound_finder.specs.declared.ending.MethodBound.{MethodBound};
+ghost use Rattle.bound_finder.specs.Certified.{AreEmptyIfEndless};
 ghost use Rattle.bound_finder.specs.Ending.{IsMethodBound};
 ghost use Rattle.bound_finder.specs.Ready.{AreReady, IsReadyOrder, IsSizeCause};
 
@@ -67,6 +69,8 @@ pub fn certify(
     requires ready { (P : Program) → IsFlowOf P f.now → IsReadyOrder P (bounds_of f.now b.now) root order.now.methods }
     ensures grammar { IfOk result (λ c. IsInGrammar c × (c.version ≡ 2) × (c.root ≡ root)) }
     ensures meets { IfOk result (λ c. (P : Program) → IsFlowOf P f.now → MeetsConditions P t (bounds_of f.now b.now) c) }
+    ensures kinds { IfOk result (λ c. All (λ s. s.kind ≢ Alone) c.sections) }
+    ensures empty { IfOk result (λ c. (P : Program) → IsFlowOf P f.now → AreEmptyIfEndless P c.sections) }
     ensures printed { IfOk result (λ c. (P : Program) → IsFlowOf P f.now → IsPrinted P t (bounds_of f.now b.now) root c.bound) }
     ensures kept { IfOk result (λ _. (P : Program) → IsFlowOf P f.now → KeepSize P t (bounds_of f.now b.now) root) }
     ensures cause { IfErr result (λ e. (P : Program) → IsFlowOf P f.now → IsSizeCause P t (bounds_of f.now b.now) root e) }

@@ -1,5 +1,5 @@
 //! The check of certificates of execution time: whether a certificate meets the conditions of `bound_rules`, section by section,
-//! or which of them fails first.
+//! or which of them fails first. What a section is checked with is public, for the check of certificates with prices.
 #![tactic(auto)]
 
 ghost use Rattle.std.specs.Prelude.{◌≡◌, ◌<◌, IfOk, IfErr};
@@ -21,15 +21,21 @@ mod task;
 mod telling;
 mod values;
 
+pub use answer::joined;
 pub use bound_rules::CheckFault;
 use bound_texts::loops::Bounds;
 use certificates::Cert;
 pub use checked::Checked;
 use ending::check_last;
 use method_flow::{FlowProgram, Timing};
+pub use prepared::{Prepared, prepare};
+pub use prices::{fees, loop_bounds};
+pub use section::wrong_beside;
 use sections::check_sections;
 use std::alloc::Global;
-use task::Task;
+pub use task::Task;
+pub use telling::full;
+pub use values::Values;
 
 /// Checks a certificate of a program whose loops have these bounds: each section behind those before it, and the last line. It
 /// answers the first condition that fails, or that there is no memory.

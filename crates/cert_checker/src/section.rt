@@ -38,7 +38,7 @@ fn check_potentials(
 }
 
 /// The least node of a section that is none, or that heads a loop without a bound.
-fn wrong_beside(task: &Task<'_>, s: &CertSection, nodes: &[bool]) -> Option<u32>
+pub fn wrong_beside(task: &Task<'_>, s: &CertSection, nodes: &[bool]) -> Option<u32>
     requires coded { s.now.method < length task.now.flow.methods }
     requires usual { IsUsual s.now.section }
     ensures { IsLeast (IsWrongBeside (bounds_of task.now.flow task.now.bounds) s.now nodes.now) result }

@@ -1,4 +1,3 @@
-mod Boundaries
 mod Staying
 mod Keeping
 mod Counting

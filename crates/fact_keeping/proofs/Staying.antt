@@ -10,8 +10,9 @@ use Rattle.activations.specs.Activations.{Stage, Follows, depth, StaysAbove, IsA
 use Rattle.activations.specs.Stays.{IsTop, Stay}
 use Rattle.activations.specs.Stays.Stay.{leaves, goes, calls}
 use Rattle.activations.specs.Keeping.{node_at, stages_of, walk_of, LiesAmong}
+use Rattle.activations.proofs.Staying.{left_of, left_depth, depth_is}
+use Rattle.activations.proofs.Nodes.{path_of, nodes_of}
 use Rattle.fact_keeping.specs.Children.{ChildrenKeepBy, KeepsBy}
-use Rattle.fact_keeping.proofs.Boundaries.{left_of, left_depth, depth_is, path_of, nodes_of}
 
 -- the call of a stay is an activation
 abbrev activation_of : {g : Setting} {callers : List Frame} {m : ℕ} {a b c : Stage} {u : ℕ} {bs : List Stage} {vs : List ℕ} (top : IsTop callers m a u) → Follows g a b

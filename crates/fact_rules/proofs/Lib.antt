@@ -5,7 +5,8 @@ pub mod Facts
 mod Walking
 mod Plain
 pub mod Pricing
-mod Lines
-mod Viewed
+pub mod Lines
+pub mod Viewed
 mod Refusing
 mod Examples
+mod Calling

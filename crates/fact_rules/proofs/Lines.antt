@@ -10,13 +10,13 @@ use Rattle.fact_rules.specs.Conditions.{IsCallersLoad}
 use Rattle.fact_rules.specs.Conditions.IsCallersLoad.{none, greatest}
 use Rattle.fact_rules.specs.Laws.{PricedLineIsTold}
 
-same_invoke : (p : CostParams) (a b : ℕ) → IsGreatestInvoke p a → IsGreatestInvoke p b → a ≡ b
+pub same_invoke : (p : CostParams) (a b : ℕ) → IsGreatestInvoke p a → IsGreatestInvoke p b → a ≡ b
 same_invoke p a b x y =
     let up = x.greatest y.op b y.invoke y.is in
     let down = y.greatest x.op a x.invoke x.is in
     omega (arith, up, down)
 
-same_back : (P : Program) (r root a b : ℕ) → IsCallersLoad P r root a → IsCallersLoad P r root b → a ≡ b
+pub same_back : (P : Program) (r root a b : ℕ) → IsCallersLoad P r root a → IsCallersLoad P r root b → a ≡ b
 same_back P r root a b (none is never) (none is' never') = is ∙ sym is'
 same_back P r root a b (none is never) (greatest m calls is' most) = absurd (never m calls)
 same_back P r root a b (greatest m calls is most) (none is' never) = absurd (never m calls)

@@ -11,13 +11,16 @@ use Rattle.method_flow.specs.declared.timing.Timing.{Timing}
 use Rattle.bound_rules.specs.Told.{Valued, section_value}
 use Rattle.bound_rules.specs.Sections.{section_bounds, MeetsSection}
 use Rattle.bound_rules.specs.Conditions.{MeetAll}
+use Rattle.bound_rules.specs.Met.{AreMet}
+use Rattle.bound_rules.specs.Met.AreMet.{nothing, one_more}
+use Rattle.bound_rules.specs.Laws.{NoValueNoEnd}
 use Rattle.flow_facts.specs.Facts.{Facts}
 use Rattle.priced_sections.specs.Paid.{paying, paid_value, at_least_zero}
 use Rattle.priced_sections.specs.Laws.{PlainIsPaid, PlainValueIsPaid}
 use Rattle.fact_rules.specs.Pricing.{PricedSection, with_prices, Pricing, PlacedPrice, placed_prices}
 use Rattle.fact_rules.specs.Sections.{MeetsPriced, MeetAllPriced}
 use Rattle.fact_rules.specs.Conditions.{AreOfFacts}
-use Rattle.fact_rules.specs.Laws.{PlainIsPriced}
+use Rattle.fact_rules.specs.Laws.{AreClosedIfEndless, PlainIsPriced}
 
 -- a section without prices
 abbrev bare : CertSection → PricedSection
@@ -51,13 +54,14 @@ module _ (conditions : PlainIsPaid) (values : PlainValueIsPaid) (P : Program) (t
     is = value_is earlier s value h empty;
   }
 
-  meet_all : (earlier : List Valued) (ss : List CertSection) (vs : List Valued) → ((e : List Valued) (s : CertSection) → Contains ss s → MeetsSection P t bound_of e s None → potential s.section.nodes 0 ≡ None)
+  meet_all : NoValueNoEnd → (earlier : List Valued) (ss : List CertSection) (vs : List Valued) → AreMet P t bound_of earlier → AreClosedIfEndless P ss
       → MeetAll P t bound_of earlier ss vs → MeetAllPriced P t bound_of nothing_in_root earlier (with_prices ss (none_each ss)) vs
-  meet_all earlier [] vs empty all = all
-  meet_all earlier (s ∷ ss) vs empty (value, one, more) = (
+  meet_all no_end earlier [] vs met closed all = all
+  meet_all no_end earlier (s ∷ ss) vs met closed (value, one, more) = (
     value,
-    meets earlier s value one (λ none. empty earlier s (at_head s ss) (subst (λ (o : Option ℕ). MeetsSection P t bound_of earlier s o) none one)),
-    meet_all (earlier ++ section_value s value ∷ []) ss vs (λ e x has h. empty e x (in_tail s x ss has) h) more,
+    meets earlier s value one
+        (λ none. closed s (at_head s ss) (no_end P t bound_of earlier s met (subst (λ (o : Option ℕ). MeetsSection P t bound_of earlier s o) none one))),
+    meet_all no_end (earlier ++ section_value s value ∷ []) ss vs (one_more met s value one) (λ x has. closed x (in_tail s x ss has)) more,
   )
 
   no_price : (ss : List CertSection) → placed_prices nothing_in_root (with_prices ss (none_each ss)) ≡ []
@@ -67,11 +71,11 @@ module _ (conditions : PlainIsPaid) (values : PlainValueIsPaid) (P : Program) (t
   of_facts : (ss : List CertSection) → AreOfFacts (placed_prices nothing_in_root (with_prices ss (none_each ss)))
   of_facts ss x has = absurd (nil_contains x (subst (λ (xs : List PlacedPrice). Contains xs x) (no_price ss) has))
 
-pub plain_is_priced : PlainIsPaid → PlainValueIsPaid → PlainIsPriced
-plain_is_priced conditions values P t bound_of facts c bound empty h right = record {
+pub plain_is_priced : PlainIsPaid → PlainValueIsPaid → NoValueNoEnd → PlainIsPriced
+plain_is_priced conditions values no_end P t bound_of facts c bound closed h right = record {
   facts_are = of_facts conditions values P t bound_of facts c.root c.sections;
   values = h.values;
-  sections = meet_all conditions values P t bound_of facts c.root [] c.sections h.values empty h.sections;
+  sections = meet_all conditions values P t bound_of facts c.root no_end [] c.sections h.values nothing closed h.sections;
   coded = h.coded;
   full = h.full;
   says = h.says;

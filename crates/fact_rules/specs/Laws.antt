@@ -14,7 +14,7 @@ use Rattle.method_flow.specs.Graphs.{IsLiveGraph}
 use Rattle.method_flow.specs.Keeping.{BoundOf, WalkKeeps}
 use Rattle.method_flow.specs.declared.timing.Timing.{Timing}
 use Rattle.bound_rules.specs.Told.{Valued, section_value}
-use Rattle.bound_rules.specs.Sections.{IsSectionEdge, IsSectionNode, section_bounds, MeetsSection}
+use Rattle.bound_rules.specs.Sections.{IsSectionEdge, IsSectionNode, section_bounds}
 use Rattle.bound_rules.specs.Conditions.{MeetsConditions}
 use Rattle.flow_facts.specs.Facts.{Facts}
 use Rattle.priced_cert.specs.Certificate.{PricedCertificate}
@@ -96,15 +96,14 @@ OwnPricesBoundWalks =
 abbrev pub unpriced : Certificate → (bound : Option ℕ) → PricedCertificate
 unpriced c bound = record { plain = record c { bound = bound }; root_prices = []; prices = map (λ s. []) c.sections }
 
--- a section of the certificate that has no value, behind whatever sections, doesn't list its first node
-abbrev pub AreEmptyWithoutValue : Program → Timing → BoundOf → Certificate → Type 0
-AreEmptyWithoutValue P t bound_of c =
-    (earlier : List Valued) (s : CertSection) → Contains c.sections s → MeetsSection P t bound_of earlier s None → potential s.section.nodes 0 ≡ None
+-- a section of a method that can't end doesn't list its first node
+abbrev pub AreClosedIfEndless : Program → List CertSection → Type 0
+AreClosedIfEndless P ss = (s : CertSection) → Contains ss s → ¬ CanEnd P s.method → potential s.section.nodes 0 ≡ None
 
 -- such a certificate that meets its conditions meets those on one with prices, whatever the facts, where its last line is right for one
 abbrev pub PlainIsPriced : Type 0
 PlainIsPriced =
-    (P : Program) (t : Timing) (bound_of : BoundOf) (facts : Facts) (c : Certificate) (bound : Option ℕ) → AreEmptyWithoutValue P t bound_of c
+    (P : Program) (t : Timing) (bound_of : BoundOf) (facts : Facts) (c : Certificate) (bound : Option ℕ) → AreClosedIfEndless P c.sections
     → (h : MeetsConditions P t bound_of c) → IsPricedRight P t c.root 0 h.full bound
     → MeetsPrices P t bound_of facts (unpriced c bound)
 

@@ -47,6 +47,7 @@ pub fn priced_sections_bound_walks()
 pub fn plain_is_priced()
     ensures { PlainIsPriced }
 {
+    bound_rules::laws::no_value_no_end();
     priced_sections::laws::plain_is_paid();
 }
 

@@ -5,6 +5,7 @@ use Rattle.node_costs.specs.Costs.{bounds_of}
 use Rattle.bound_rules.specs.Bounding.{KeepSize}
 use Rattle.bound_rules.specs.Conditions.{MeetsConditions}
 use Rattle.bound_rules.specs.Numbers.{IsPrinted}
+use Rattle.bound_finder.specs.Certified.{AreEmptyIfEndless}
 use Rattle.bound_finder.specs.Known.{BoundSetting, bounds_in, ForEach}
 use Rattle.bound_finder.specs.Methods.{AreMethodsFound}
 use Rattle.bound_finder.specs.Ready.{AreReady, IsReadyOrder, IsSizeCause, IsWantOfMemory}
@@ -37,6 +38,11 @@ pub returns-clause-meets : goal.returns-clause-meets
 returns-clause-meets c =
     let S : BoundSetting → Type 0 = λ s. IfOk c.certificate.result (λ x. ForEach s (λ P. MeetsConditions P s.timing (bounds_in s) x)) in
     subst S c.new-task.ensures c.certificate.ensures.meets
+
+pub returns-clause-empty : goal.returns-clause-empty
+returns-clause-empty c =
+    let S : BoundSetting → Type 0 = λ s. IfOk c.certificate.result (λ x. ForEach s (λ P. AreEmptyIfEndless P x.sections)) in
+    subst S c.new-task.ensures c.certificate.ensures.empty
 
 pub returns-clause-printed : goal.returns-clause-printed
 returns-clause-printed c =

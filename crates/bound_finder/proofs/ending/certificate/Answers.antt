@@ -1,10 +1,13 @@
-use Rattle.std.proofs.Common.{◌≡◌, ◌<◌, ◌^◌, List, None, refl, sym, subst, rules}
+use Rattle.std.specs.Prelude.{All}
+use Rattle.certificates.specs.declared.lines.line.SectionKind.TheVariants.{Alone}
+use Rattle.std.proofs.Common.{◌≡◌, ◌≢◌, ◌<◌, ◌^◌, List, None, refl, sym, subst, rules}
 use Rattle.certificates.specs.Certificate.{Certificate, IsInGrammar}
 use Rattle.bound_rules.specs.Conditions.{MeetsConditions}
 use Rattle.bound_finder.specs.declared.known.Known.{Known}
 use Rattle.bound_finder.specs.Known.{bounds_in, ForEach, known_at}
 use Rattle.bound_finder.specs.Ending.{AreKnownWithin, IsPrintedSmall}
-use Rattle.bound_finder.proofs.Certifying.{root_known, in_grammar, meets}
+use Rattle.bound_finder.specs.Certified.{AreEmptyIfEndless}
+use Rattle.bound_finder.proofs.Certifying.{root_known, in_grammar, meets, are_empty}
 use Rattle.bound_finder.proofs.ending.certificate.Goals as goal
 
 pub method_bound-requires-clause-known : goal.method_bound-requires-clause-known
@@ -38,6 +41,23 @@ returns-in-Printed-clause-meets c =
     let by = subst B c.deref.ensures.value c.in-Printed.ensures.printed in
     let M : Certificate → Type 0 = λ x. MeetsConditions P set.timing (bounds_in set) x in
     subst M (sym c.new.ensures) (meets set root all c.requires.found bound by.0 by.1 P of c.requires.root)
+
+pub returns-in-Printed-clause-kinds : goal.returns-in-Printed-clause-kinds
+returns-in-Printed-clause-kinds c =
+    let K : Certificate → Type 0 = λ x. All (λ s. s.kind ≢ Alone) x.sections in
+    subst K (sym c.new.ensures) c.requires.found.found.kinds
+
+pub returns-in-Printed-clause-empty : goal.returns-in-Printed-clause-empty
+returns-in-Printed-clause-empty c =
+    λ P of.
+    let set = c.args.task.now in
+    let root = c.args.root in
+    let all = c.args.all in
+    let bound = c.in-Printed.bound in
+    let B : List Known → Type 0 = λ tb. (all.least ≡ None) × IsPrintedSmall set (known_at tb root).full bound in
+    let by = subst B c.deref.ensures.value c.in-Printed.ensures.printed in
+    let E : Certificate → Type 0 = λ x. AreEmptyIfEndless P x.sections in
+    subst E (sym c.new.ensures) (are_empty set root all c.requires.found bound by.0 by.1 P of)
 
 pub returns-in-Printed-clause-kept : goal.returns-in-Printed-clause-kept
 returns-in-Printed-clause-kept c = λ P of. (c.in-Printed.ensures.bound P of).1

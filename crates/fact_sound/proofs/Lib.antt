@@ -1,0 +1,9 @@
+mod Positions
+mod Backed
+mod Accounts
+mod Called
+mod Moving
+mod Calling
+mod Accounting
+mod RootVisits
+mod Sound
