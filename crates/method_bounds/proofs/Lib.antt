@@ -1,7 +1,8 @@
+mod Tabled
+mod Walks
 mod Leasts
+mod Recursions
 mod Causing
-mod Marks
-mod Placed
 mod Sorts
 mod Written
 mod Texts

@@ -21,8 +21,7 @@ use Rattle.bound_finder.proofs.Growing.{at_front, at_last}
 use Rattle.method_bounds.specs.declared.answer.BoundAnswer.{BoundAnswer}
 use Rattle.method_bounds.specs.Answers.{IsBoundAnswer}
 use Rattle.method_bounds.specs.Answering.{answer_by, refused_by, IsWrittenBy, AreWritten}
-use Rattle.method_bounds.specs.Placing.{AreBoundable}
-use Rattle.method_bounds.specs.Sorting.{IsSortedOut, AreSorted}
+use Rattle.method_bounds.specs.Sorting.{AreBoundable, IsSortedOut, AreSorted}
 
 -- ---- one after another
 

@@ -1,6 +1,7 @@
 pub mod Answers
 pub mod Loops
-pub mod Placing
+pub mod Leasts
+pub mod Walking
 pub mod Sorting
 pub mod Answering
 pub mod Lines

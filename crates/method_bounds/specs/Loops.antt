@@ -1,5 +1,5 @@
 -- What of the loops of methods stands against a bound, and the first of it among some methods.
-use Rattle.std.specs.Prelude.{◌≡◌, ◌≢◌, ℕ, List, [], Contains, Option, Some, None, slice_get}
+use Rattle.std.specs.Prelude.{◌≡◌, ◌≢◌, ℕ, List, [], Option, Some, None, slice_get}
 use Rattle.bound_texts.specs.Loops.Bounds.{LoopBound}
 use Rattle.section_check.specs.Least.{IsLeast}
 use Rattle.bytecode_model.specs.Program.{Program}
@@ -26,8 +26,8 @@ AreLoopsOf f bounds loops = (m : ℕ) (x : Loops) → slice_get loops m ≡ Some
 -- ---- among some methods
 
 -- it is one of these, and has the property
-abbrev pub IsAmong : (Has : ℕ → Type 0) → (methods : List ℕ) → ℕ → Type 0
-IsAmong Has ms m = Contains ms m × Has m
+abbrev pub IsAmong : (K Has : ℕ → Type 0) → ℕ → Type 0
+IsAmong K Has m = K m × Has m
 
 -- a loop of the method has several entries
 abbrev pub IsIrreducible : List Loops → (method : ℕ) → Type 0
@@ -38,15 +38,24 @@ abbrev pub IsLacking : List Loops → (method : ℕ) → Type 0
 IsLacking loops m = (p : ℕ) × (slice_get loops m ≡ Some (Lacking p))
 
 -- no loop of these methods has several entries
-abbrev pub AreSingle : List Loops → (methods : List ℕ) → Type 0
-AreSingle loops ms = (m : ℕ) → ¬ IsAmong (IsIrreducible loops) ms m
+abbrev pub AreSingle : List Loops → (K : ℕ → Type 0) → Type 0
+AreSingle loops K = (m : ℕ) → ¬ IsAmong K (IsIrreducible loops) m
 
 -- the first cause that lies in the loops of these methods, if there is one: several entries, or else no bound, and of the least method
-abbrev pub IsLoopCauseIn : List Loops → (methods : List ℕ) → Option BoundCause → Type 0
-IsLoopCauseIn loops ms None = AreSingle loops ms × ((m : ℕ) → ¬ IsAmong (IsLacking loops) ms m)
-IsLoopCauseIn loops ms (Some causes.NoMethod) = ⊥
-IsLoopCauseIn loops ms (Some causes.Recursion) = ⊥
-IsLoopCauseIn loops ms (Some (causes.Irreducible m)) = IsLeast (IsAmong (IsIrreducible loops) ms) (Some m)
-IsLoopCauseIn loops ms (Some (causes.MissingBound m p)) =
-    AreSingle loops ms × IsLeast (IsAmong (IsLacking loops) ms) (Some m) × (slice_get loops m ≡ Some (Lacking p))
-IsLoopCauseIn loops ms (Some (causes.TooLarge m)) = ⊥
+abbrev pub IsLoopCauseIn : List Loops → (K : ℕ → Type 0) → Option BoundCause → Type 0
+IsLoopCauseIn loops K None = AreSingle loops K × ((m : ℕ) → ¬ IsAmong K (IsLacking loops) m)
+IsLoopCauseIn loops K (Some causes.NoMethod) = ⊥
+IsLoopCauseIn loops K (Some causes.Recursion) = ⊥
+IsLoopCauseIn loops K (Some (causes.Irreducible m)) = IsLeast (IsAmong K (IsIrreducible loops)) (Some m)
+IsLoopCauseIn loops K (Some (causes.MissingBound m p)) =
+    AreSingle loops K × IsLeast (IsAmong K (IsLacking loops)) (Some m) × (slice_get loops m ≡ Some (Lacking p))
+IsLoopCauseIn loops K (Some (causes.TooLarge m)) = ⊥
+
+-- the first loop without a bound of a method, by what is said of its loops
+abbrev pub missing_in : ℕ → Option Loops → Option BoundCause
+missing_in m (Some (Lacking p)) = Some (causes.MissingBound m p)
+missing_in m _ = None
+
+abbrev pub missing_of : List Loops → (method : Option ℕ) → Option BoundCause
+missing_of loops None = None
+missing_of loops (Some m) = missing_in m (slice_get loops m)

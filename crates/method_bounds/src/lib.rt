@@ -12,12 +12,13 @@ ghost use Rattle.method_bounds.specs.Lines.{AreBoundLines, name_in};
 
 mod answer;
 mod answers;
+mod calls;
 mod causes;
 mod lines;
 mod loops;
-mod placing;
 mod profile;
 mod sorting;
+mod walk;
 
 pub use answer::BoundAnswer;
 use answers::answers_of;

@@ -1,18 +1,18 @@
 //! The methods that only a size forbids a bound of, each behind all that it may call; and what forbids one of each other.
-ghost use Rattle.std.specs.Prelude.{◌≡◌, ◌<◌, List, [], length, All, IfOk};
+ghost use Rattle.std.specs.Prelude.{◌≡◌, ◌<◌, List, length, All, IfOk, slice_index_or};
 ghost use Rattle.bound_texts.specs.Loops.Bounds.{LoopBound};
 ghost use Rattle.call_regions.specs.Regions.{AreKnown};
+ghost use Rattle.method_bounds.specs.Leasts.{no_leasts};
 ghost use Rattle.method_bounds.specs.Loops.{AreLoopsOf};
-ghost use Rattle.method_bounds.specs.Placing.{IsPlacing};
-ghost use Rattle.method_bounds.specs.Sorting.{AreSorted, IsPlacedUnless, Sorts};
+ghost use Rattle.method_bounds.specs.Sorting.{AreSorted, IsCauseOf, AreCauses, ArePicked};
 
-use super::causes::loop_cause;
+use super::causes::{Leasts, leasts_of, loop_cause};
 use super::loops::Loops;
-use super::placing::{Placing, none_placed, place_all};
+use super::walk::{State, walk_all};
 use answer_lines::BoundCause;
 use base::{Items, NoMemory};
-use call_regions::laws::order_excludes_cycles;
-use call_regions::{CallFault, Order, order};
+use call_regions::Order;
+use call_regions::laws::runs_are_calls;
 use method_flow::FlowProgram;
 use std::alloc::Global;
 
@@ -23,99 +23,50 @@ pub struct Sorted {
     pub causes: Vec<Option<BoundCause>>,
 }
 
-/// Places these methods, unless a cause against a bound lies in their loops.
-fn place_unless(
-    placing: &mut Placing,
-    loops: &[Loops],
-    methods: &[u32],
-) -> Result<Option<BoundCause>, NoMemory>
-    requires known { All (λ m. m < length loops.now) methods.now }
-    requires long { length placing.old.placed.items ≡ length loops.now }
-    requires form { IsPlacing placing.old }
-    ensures form { IfOk result (λ _. IsPlacing placing.new) }
-    ensures long { IfOk result (λ _. length placing.new.placed.items ≡ length placing.old.placed.items) }
-    ensures placed { IfOk result (λ cause. IsPlacedUnless loops.now methods.now cause placing.old.order.items placing.new.order.items) }
+/// What forbids a bound of a method, if more than a size may: a ring of calls, or else what lies in the loops of the methods that may run
+/// while it does, of which these are the least.
+fn cause_of(state: State, loops: &[Loops], leasts: Leasts) -> Option<BoundCause>
+    ensures { IsCauseOf loops.now state leasts result }
 {
-    match loop_cause(loops, methods) {
-        Some(cause) => Ok(Some(cause)),
-        None => {
-            place_all(placing, methods)?;
-            Ok(None)
-        }
+    match state {
+        State::Recursive => Some(BoundCause::Recursion),
+        _ => loop_cause(loops, leasts),
     }
 }
 
-/// Places what may run while the method `m` does, or says what forbids a bound of it.
-fn sort_within(
+/// The same of each method, by number.
+fn causes_of(
     alloc: Global,
-    f: &FlowProgram,
+    states: &[State],
     loops: &[Loops],
-    placing: &mut Placing,
-    m: u32,
-) -> Result<Option<BoundCause>, NoMemory>
-    requires method { m < length f.now.methods }
-    requires loops { length loops.now ≡ length f.now.methods }
-    requires long { length placing.old.placed.items ≡ length f.now.methods }
-    requires form { IsPlacing placing.old }
-    ensures form { IfOk result (λ _. IsPlacing placing.new) }
-    ensures long { IfOk result (λ _. length placing.new.placed.items ≡ length placing.old.placed.items) }
-    ensures sorts { IfOk result (λ cause. (bounds : List LoopBound) → AreLoopsOf f.now bounds loops.now
-        → Sorts f.now bounds m cause placing.old.order.items placing.new.order.items) }
-{
-    order_excludes_cycles();
-    match order(alloc, f, m) {
-        Ok(order) => place_unless(placing, loops, order.methods.as_slice()),
-        Err(CallFault::Recursion(_)) => Ok(Some(BoundCause::Recursion)),
-        Err(CallFault::NoMemory) => Err(NoMemory),
-    }
-}
-
-/// The same, unless the method stands in the order.
-fn sort(
-    alloc: Global,
-    f: &FlowProgram,
-    loops: &[Loops],
-    placing: &mut Placing,
-    m: u32,
-) -> Result<Option<BoundCause>, NoMemory>
-    requires method { m < length f.now.methods }
-    requires loops { length loops.now ≡ length f.now.methods }
-    requires long { length placing.old.placed.items ≡ length f.now.methods }
-    requires form { IsPlacing placing.old }
-    ensures form { IfOk result (λ _. IsPlacing placing.new) }
-    ensures long { IfOk result (λ _. length placing.new.placed.items ≡ length placing.old.placed.items) }
-    ensures sorts { IfOk result (λ cause. (bounds : List LoopBound) → AreLoopsOf f.now bounds loops.now
-        → Sorts f.now bounds m cause placing.old.order.items placing.new.order.items) }
-{
-    if placing.placed[m as usize] {
-        Ok(None)
-    } else {
-        sort_within(alloc, f, loops, placing, m)
-    }
-}
-
-/// What forbids a bound of each method that doesn't come into the order.
-fn causes_beside(
-    alloc: Global,
-    f: &FlowProgram,
-    loops: &[Loops],
-    placing: &mut Placing,
+    leasts: &[Leasts],
 ) -> Result<Vec<Option<BoundCause>>, NoMemory>
-    requires loops { length loops.now ≡ length f.now.methods }
-    requires long { length placing.old.placed.items ≡ length f.now.methods }
-    requires none { placing.old.order.items ≡ [] }
-    requires form { IsPlacing placing.old }
-    ensures long { IfOk result (λ causes. length causes.items ≡ length f.now.methods) }
-    ensures known { IfOk result (λ _. AreKnown f.now placing.new.order.items) }
-    ensures sorted { IfOk result (λ causes. (bounds : List LoopBound) → AreLoopsOf f.now bounds loops.now
-        → AreSorted f.now bounds causes.items placing.new.order.items) }
+    requires { length leasts.now ≡ length states.now }
+    ensures { IfOk result (λ causes. AreCauses loops.now states.now leasts.now causes.items) }
 {
     let mut causes = Vec::new(alloc);
-    for m in 0..f.method_count() {
-        let cause = sort(alloc, f, loops, placing, m)?;
-        causes.push(cause)?;
+    for (m, state) in states.iter().enumerate() {
+        causes.push(cause_of(*state, loops, leasts[m]))?;
     }
     Ok(causes)
+}
+
+/// Those of these methods that have no cause.
+fn without_cause(
+    alloc: Global,
+    order: &[u32],
+    causes: &[Option<BoundCause>],
+) -> Result<Vec<u32>, NoMemory>
+    requires { All (λ m. m < length causes.now) order.now }
+    ensures { IfOk result (λ picked. ArePicked causes.now order.now picked.items) }
+{
+    let mut picked = Vec::new(alloc);
+    for m in order {
+        if causes[*m as usize].is_none() {
+            picked.push(*m)?;
+        }
+    }
+    Ok(picked)
 }
 
 /// All methods of the table, sorted, where this is said of their loops.
@@ -126,12 +77,14 @@ pub fn sort_all(alloc: Global, f: &FlowProgram, loops: &[Loops]) -> Result<Sorte
     ensures sorted { IfOk result (λ s. (bounds : List LoopBound) → AreLoopsOf f.now bounds loops.now
         → AreSorted f.now bounds s.causes.items s.order.methods) }
 {
-    let mut placing = none_placed(alloc, f.method_count())?;
-    let causes = causes_beside(alloc, f, loops, &mut placing)?;
-    let Placing { order, placed: _ } = placing;
+    runs_are_calls();
+    let walk = walk_all(alloc, f)?;
+    let leasts = leasts_of(alloc, f, loops, &walk.order)?;
+    let causes = causes_of(alloc, &walk.states, loops, &leasts)?;
+    let methods = without_cause(alloc, &walk.order, &causes)?;
     Ok(Sorted {
         order: Order {
-            methods: Items::new(order),
+            methods: Items::new(methods),
         },
         causes,
     })

@@ -1,7 +1,0 @@
-use Rattle.std.proofs.Common.{take}
-use Rattle.section_check.specs.Least.{IsLeast}
-use Rattle.method_bounds.specs.Loops.{IsAmong, IsLacking}
-use Rattle.method_bounds.proofs.causes.least_lacking.Given as goal
-
-abbrev pub invariant-loop-m : goal.invariant-loop-m
-invariant-loop-m l = IsLeast (IsAmong (IsLacking l.loops) (take l.m-index l.methods)) l.least
