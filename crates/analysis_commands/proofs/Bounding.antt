@@ -29,7 +29,8 @@ use Rattle.analysis_commands.specs.declared.bound.NotBounded.{NotBounded}
 use Rattle.analysis_commands.specs.declared.bound.NotBounded.TheVariants as refusals
 use Rattle.analysis_commands.specs.Analysis.{IsAnalysisOf}
 use Rattle.analysis_commands.specs.Bounding.{MethodHasName, IsBoundBy, IsCertText, IsBoundNumber, subject_of, IsForbidden, IsNotBounded}
-use Rattle.analysis_commands.specs.BoundAnswers.{IsAskedOf, IsCertificateOf, IsCauseOf, IsCertificateFor, IsSizeCauseOf, IsBoundText, IsBoundNumberOf, IsForbiddenBy, IsNotBoundedBy}
+use Rattle.analysis_commands.specs.BoundAnswers.{IsAskedOf, IsCertificateOf, IsCauseOf, IsCertificateFor}
+use Rattle.analysis_commands.specs.BoundAnswers.{IsSizeCauseOf, IsBoundText, IsBoundNumberOf, IsForbiddenBy, IsNotBoundedBy}
 use Rattle.analysis_commands.proofs.Lifting.{AreAlike, none, some, are_alike, named, moved}
 
 -- ---- the certificate, by the table

@@ -1,6 +1,7 @@
+pub mod Executives
 pub mod Lifting
 pub mod Bounding
 pub mod LoopLines
 pub mod FurtherLines
 pub mod Needs
-pub mod Shaping
+pub mod Texts

@@ -28,12 +28,13 @@ use Rattle.bound_rules.specs.declared.faults.CheckFault.TheVariants as faults
 use Rattle.bound_rules.specs.Conditions.{MeetsConditions}
 use Rattle.bound_rules.specs.Refused.{IsCertRefused, IsRefusedOrMemory}
 use Rattle.analysis_commands.specs.declared.analysis.Analysis.{Analysis}
-use Rattle.analysis_commands.specs.declared.analysis.AnalysisFault.{AnalysisFault}
-use Rattle.analysis_commands.specs.declared.analysis.AnalysisFault.TheVariants.{MethodTooLong, BadBounds, TwiceBound, NoMemory}
-use Rattle.analysis_commands.specs.declared.check.Held.{Held}
+use Rattle.answer_lines.specs.declared.analysis.AnalysisFault.{AnalysisFault}
+use Rattle.answer_lines.specs.declared.analysis.AnalysisFault.TheVariants.{MethodTooLong, BadBounds, TwiceBound, NoMemory}
+use Rattle.answer_lines.specs.declared.analysis.Held.{Held}
 use Rattle.analysis_commands.specs.declared.check.CheckRefusal.{CheckRefusal}
 use Rattle.analysis_commands.specs.declared.check.CheckRefusal.TheVariants as check
-use Rattle.analysis_commands.specs.Analysis.{EachFits, timing_of, number_text, named_or_number, bounds_of, IsAnalysisOf, IsBoundsFault, IsAnalysisFault}
+use Rattle.analysis_commands.specs.Analysis.{EachFits, timing_of, number_text, named_or_number, bounds_of, IsAnalysisOf, IsAnalysisFault}
+use Rattle.answer_lines.specs.BoundsFaults.{IsBoundsFault}
 use Rattle.analysis_commands.specs.Checking.{method_of, ReadsBoth, IsHeld, IsCheckRefusal}
 use Rattle.analysis_commands.specs.Answers.{table_name, IsMethodTooLong, IsHeldInText, IsTextFault, FailsInText, IsRefusedInText}
 

@@ -6,15 +6,16 @@ use Rattle.name_laws.specs.Written.{written_name}
 use Rattle.jopizer.specs.Methods.Fitting.{MethodFits, IsFirst}
 use Rattle.command_line.specs.declared.command.Settings.{Settings}
 use Rattle.bound_texts.specs.Loops.Bounds.{LoopBound, bound_in}
-use Rattle.bound_texts.specs.Loops.Grammar.{IsRead, IsReadTo, IsMalformed, IsTwice}
+use Rattle.bound_texts.specs.Loops.Grammar.{IsRead}
 use Rattle.bytecode_model.specs.Lists.{onto}
 use Rattle.bytecode_model.specs.Program.{body_of}
 use Rattle.method_flow.specs.declared.timing.Timing.{Timing}
 use Rattle.method_flow.specs.Flow.{Coded, IsFlowOf}
 use Rattle.method_flow.specs.Keeping.{BoundOf}
 use Rattle.analysis_commands.specs.declared.analysis.Analysis.{Analysis}
-use Rattle.analysis_commands.specs.declared.analysis.AnalysisFault.{AnalysisFault}
-use Rattle.analysis_commands.specs.declared.analysis.AnalysisFault.TheVariants.{MethodTooLong, BadBounds, TwiceBound, NoMemory}
+use Rattle.answer_lines.specs.declared.analysis.AnalysisFault.{AnalysisFault}
+use Rattle.answer_lines.specs.declared.analysis.AnalysisFault.TheVariants.{MethodTooLong, BadBounds, TwiceBound, NoMemory}
+use Rattle.answer_lines.specs.BoundsFaults.{IsBoundsFault}
 
 -- ---- the program, by what the words say of the machine
 
@@ -46,13 +47,6 @@ pub record IsAnalysisOf (cs : List ClassFile) (s : Settings) (bounds_text : List
   pub names : (m : ℕ) (k : Coded) → slice_get a.flow.methods m ≡ Some k → k.name ≡ written_name cs m
   pub bounds : IsRead bounds_text a.bounds
   pub timing : a.timing ≡ timing_of s
-
--- why a text gives no bounds: its first line that is none of the grammar, or bounds a loop once more
-abbrev pub IsBoundsFault : (bounds_text : List ℕ) → AnalysisFault → Type 0
-IsBoundsFault text (MethodTooLong m name blocks) = ⊥
-IsBoundsFault text (BadBounds line) = (r : IsReadTo text line) × IsMalformed r.line
-IsBoundsFault text (TwiceBound line) = IsTwice text line
-IsBoundsFault text NoMemory = Unit {0}
 
 -- why there is no analysis: the first method whose code doesn't fit, with its name, or else what refuses the bounds
 abbrev pub IsAnalysisFault : List ClassFile → Settings → (bounds_text : List ℕ) → AnalysisFault → Type 0

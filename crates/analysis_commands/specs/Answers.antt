@@ -9,9 +9,9 @@ use Rattle.bound_rules.specs.declared.faults.CheckFault.TheVariants as faults
 use Rattle.cert_checker.specs.Answer.{Meets, Refuses}
 use Rattle.analysis_commands.specs.declared.analysis.Analysis.{Analysis}
 use Rattle.jopizer.specs.declared.methods.fitting.TooLong.{TooLong}
-use Rattle.analysis_commands.specs.declared.analysis.AnalysisFault.{AnalysisFault}
-use Rattle.analysis_commands.specs.declared.analysis.AnalysisFault.TheVariants.{MethodTooLong, BadBounds, TwiceBound, NoMemory as WithoutMemory}
-use Rattle.analysis_commands.specs.declared.check.Held.{Held}
+use Rattle.answer_lines.specs.declared.analysis.AnalysisFault.{AnalysisFault}
+use Rattle.answer_lines.specs.declared.analysis.AnalysisFault.TheVariants.{MethodTooLong, BadBounds, TwiceBound, NoMemory as WithoutMemory}
+use Rattle.answer_lines.specs.declared.analysis.Held.{Held}
 use Rattle.analysis_commands.specs.declared.check.CheckRefusal.{CheckRefusal}
 use Rattle.analysis_commands.specs.declared.check.CheckRefusal.TheVariants.{NoAnalysis, BadCert, Fails, NoMemory}
 use Rattle.analysis_commands.specs.Analysis.{number_text}

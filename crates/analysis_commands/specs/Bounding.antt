@@ -22,7 +22,8 @@ use Rattle.answer_lines.specs.declared.bound.BoundCause.TheVariants as causes
 use Rattle.answer_lines.specs.AnalysisLines.{names_text, nodes_text}
 use Rattle.analysis_commands.specs.declared.bound.NotBounded.{NotBounded}
 use Rattle.analysis_commands.specs.declared.bound.NotBounded.TheVariants as refusals
-use Rattle.analysis_commands.specs.Analysis.{EachFits, timing_of, bounds_of, named_or_number, IsBoundsFault, IsAnalysisFault}
+use Rattle.analysis_commands.specs.Analysis.{EachFits, timing_of, bounds_of, named_or_number, IsAnalysisFault}
+use Rattle.answer_lines.specs.BoundsFaults.{IsBoundsFault}
 
 -- the method has the name
 abbrev pub MethodHasName : List ClassFile → (name : List ℕ) → (method : ℕ) → Type 0

@@ -14,10 +14,11 @@ use Rattle.bound_rules.specs.declared.faults.CheckFault.{CheckFault}
 use Rattle.bound_rules.specs.declared.faults.CheckFault.TheVariants as faults
 use Rattle.bound_rules.specs.Conditions.{MeetsConditions}
 use Rattle.bound_rules.specs.Refused.{IsCertRefused}
-use Rattle.analysis_commands.specs.declared.check.Held.{Held}
+use Rattle.answer_lines.specs.declared.analysis.Held.{Held}
 use Rattle.analysis_commands.specs.declared.check.CheckRefusal.{CheckRefusal}
 use Rattle.analysis_commands.specs.declared.check.CheckRefusal.TheVariants.{NoAnalysis, BadCert, Fails, NoMemory}
-use Rattle.analysis_commands.specs.Analysis.{EachFits, timing_of, bounds_of, named_or_number, number_text, IsBoundsFault, IsAnalysisFault}
+use Rattle.analysis_commands.specs.Analysis.{EachFits, timing_of, bounds_of, named_or_number, number_text, IsAnalysisFault}
+use Rattle.answer_lines.specs.BoundsFaults.{IsBoundsFault}
 
 -- ---- the texts
 

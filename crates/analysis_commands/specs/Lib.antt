@@ -5,4 +5,5 @@ pub mod Bounding
 pub mod BoundAnswers
 pub mod Loops
 pub mod Memory
-pub mod Shapes
+pub mod Executive
+pub mod ExecutiveAnswers

@@ -6,10 +6,12 @@ ghost use Rattle.bound_texts.specs.Loops.Grammar.{IsRead};
 ghost use Rattle.method_flow.specs.Flow.{Coded, IsFlowOf};
 ghost use Rattle.program_tables.specs.Resolved.{resolved};
 ghost use Rattle.name_laws.specs.Written.{written_name};
-ghost use Rattle.analysis_commands.specs.Analysis.{timing_of, IsAnalysisOf, IsBoundsFault, IsAnalysisFault};
+ghost use Rattle.analysis_commands.specs.Analysis.{timing_of, IsAnalysisOf, IsAnalysisFault};
+ghost use Rattle.answer_lines.specs.BoundsFaults.{IsBoundsFault};
 ghost use Rattle.analysis_commands.specs.Answers.{IsMethodTooLong};
 
 use crate::names::table_name;
+use answer_lines::AnalysisFault;
 use base::NoMemory;
 use bound_texts::loops::{Bounds, BoundsFault, read_bounds};
 use bytecode_verifier::Verified;
@@ -25,20 +27,6 @@ pub struct Analysis {
     pub flow: FlowProgram,
     pub bounds: Bounds,
     pub timing: Timing,
-}
-
-/// Why a program isn't analysed.
-#[derive(Drop)]
-pub enum AnalysisFault {
-    /// The method of this number, whose name has these bytes, is the first whose code takes more blocks of the method cache than there
-    /// are: so many.
-    MethodTooLong(u32, Vec<u8>, u32),
-    /// The line of this number, counted from 1, is the first of the bounds that is none of their grammar.
-    BadBounds(u32),
-    /// The line of this number is the first that bounds a loop which a line before it bounds.
-    TwiceBound(u32),
-    /// There was no memory.
-    NoMemory,
 }
 
 /// The timing of the machine that these settings give.

@@ -6,10 +6,10 @@ ghost use Rattle.bound_causes.specs.Naming.{IsNamedBy};
 ghost use Rattle.analysis_commands.specs.Bounding.{IsCertText, IsBoundNumber, IsNotBounded, IsBareNotBounded};
 ghost use Rattle.analysis_commands.specs.BoundAnswers.{IsOfProgram, IsBoundText, IsBoundNumberOf, IsCauseOf, IsNotBoundedBy};
 
-use crate::analysis::{Analysis, AnalysisFault, analysis_of, bounds_in};
+use crate::analysis::{Analysis, analysis_of, bounds_in};
 use crate::certifying::{certificate_of, certificate_text};
 use crate::subjects::{cause_of, subject_of};
-use answer_lines::BoundCause;
+use answer_lines::{AnalysisFault, BoundCause};
 use bound_rules::BoundRefusal;
 use bytecode_verifier::Verified;
 use command_line::Settings;

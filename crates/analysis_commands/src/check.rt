@@ -7,25 +7,15 @@ ghost use Rattle.certificates.specs.Texts.{AreLinesOf};
 ghost use Rattle.analysis_commands.specs.Answers.{IsTextFault, IsHeldInText, IsRefusedInText, IsBareTextRefusal};
 ghost use Rattle.analysis_commands.specs.Checking.{first_method, IsHeld, IsCheckRefusal, IsBareRefusal};
 
-use crate::analysis::{Analysis, AnalysisFault, analysis_of, bounds_in};
+use crate::analysis::{Analysis, analysis_of, bounds_in};
 use crate::conditions::check_certificate;
 use crate::names::number_text;
+use answer_lines::{AnalysisFault, Held};
 use bound_rules::CheckFault;
 use bytecode_verifier::Verified;
 use certificates::{Cert, CertFault, read_cert};
 use command_line::Settings;
 use std::alloc::Global;
-
-/// What is said of a certificate that holds.
-#[derive(Drop)]
-pub struct Held {
-    /// The number of the method that it is about.
-    pub root: u32,
-    /// The bytes of the method's name.
-    pub name: Vec<u8>,
-    /// The bound in cycles, or `None` where the method never ends.
-    pub bound: Option<u64>,
-}
 
 /// Why no certificate is held.
 #[derive(Drop)]

@@ -7,8 +7,9 @@ ghost use Rattle.analysis_commands.specs.Answers.{IsHeldBy, IsRefusedBy};
 ghost use Rattle.analysis_commands.specs.Checking.{method_of};
 
 use crate::analysis::Analysis;
-use crate::check::{CheckRefusal, Held};
+use crate::check::CheckRefusal;
 use crate::names::table_name;
+use answer_lines::Held;
 use bound_rules::CheckFault;
 use cert_checker::check;
 use certificates::Cert;

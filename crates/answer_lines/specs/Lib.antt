@@ -9,3 +9,4 @@ pub mod PlanLines
 pub mod Unanswered
 pub mod WorkRows
 pub mod PlanRows
+pub mod BoundsFaults

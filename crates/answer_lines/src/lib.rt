@@ -4,6 +4,7 @@
 //! `work n=N output=B cycles=C hits=H misses=M bound=P`. The lines that are put take no memory.
 #![tactic(auto)]
 
+mod analysis;
 mod bound;
 mod check;
 pub mod laws;
@@ -18,6 +19,7 @@ mod summary;
 mod texts;
 mod unanswered;
 
+pub use analysis::{AnalysisFault, Held};
 pub use bound::BoundCause;
 pub use check::{say_fault, say_held};
 pub use line::{AsmLine, Counts, Line, LinkLine, Named, Place, Sizes, SlotCounts};

@@ -10,11 +10,11 @@ use Rattle.command_line.specs.declared.command.Settings.{Settings}
 use Rattle.command_line.specs.declared.command.Command.TheVariants as commands
 use Rattle.command_line.specs.Range.{AreSettings}
 use Rattle.analysis_commands.specs.Analysis.{timing_of, bounds_of}
-use Rattle.analysis_commands.specs.Shapes.{shape_with, with_shape}
-use Rattle.commands.specs.declared.outcome.Answer.TheVariants.{Text}
-use Rattle.commands.specs.Line.{text_of_word}
-use Rattle.commands.specs.Reporting.{reported_bound}
-use Rattle.jop_cli.specs.Asking.{AnswersLinked, AnswersBare}
+use Rattle.ask_commands.specs.Shapes.{shape_with, with_shape}
+use Rattle.endings.specs.declared.outcome.Answer.TheVariants.{Text}
+use Rattle.endings.specs.Line.{text_of_word}
+use Rattle.ask_commands.specs.Reporting.{reported_bound}
+use Rattle.ask_commands.specs.Asking.{AnswersLinked, AnswersBare}
 use Rattle.jop_cli.specs.Tasks.{bounding_all, bounding_shapes, reporting}
 use Rattle.jop_cli.specs.Calls.{Call}
 use Rattle.jop_cli.specs.promises.Images.{HasNoLoop}

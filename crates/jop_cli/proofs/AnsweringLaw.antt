@@ -5,13 +5,13 @@ use Rattle.outside.specs.Outside.{Grew}
 use Rattle.command_line.specs.declared.command.Command.{Command}
 use Rattle.jopizer.specs.Linked.{Parts}
 use Rattle.jopizer.specs.Laws.{OneLinked, LinkedImagesAreRead}
-use Rattle.jop_cli.specs.declared.asking.Asked.{Asked}
-use Rattle.commands.specs.declared.outcome.Ending.{Ending}
-use Rattle.commands.specs.Line.{line_of}
-use Rattle.commands.specs.World.{World}
+use Rattle.ask_commands.specs.declared.asking.Asked.{Asked}
+use Rattle.endings.specs.declared.outcome.Ending.{Ending}
+use Rattle.endings.specs.Line.{line_of}
+use Rattle.endings.specs.World.{World}
 use Rattle.jop_cli.specs.declared.task.Task.{Task}
 use Rattle.jop_cli.specs.declared.task.Task.TheVariants.{Ask}
-use Rattle.jop_cli.specs.Asking.{AsksFiles}
+use Rattle.ask_commands.specs.Asking.{AsksFiles}
 use Rattle.jop_cli.specs.Tasks.{task_of}
 use Rattle.jop_cli.specs.Answer.{DoesTask, Does, outcome_of}
 use Rattle.jop_cli.specs.Calls.{Call}

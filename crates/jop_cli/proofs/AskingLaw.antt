@@ -9,17 +9,18 @@ use Rattle.outside.specs.Outside.{Grew}
 use Rattle.outside.specs.Files.{AreFiles}
 use Rattle.jopizer.specs.Linked.{Parts, IsLinked, image_of}
 use Rattle.jopizer.specs.Laws.{OneLinked, LinkedImagesAreRead}
-use Rattle.jop_cli.specs.declared.asking.Asked.{Asked}
-use Rattle.commands.specs.declared.outcome.Answer.{Answer}
-use Rattle.commands.specs.declared.outcome.Answer.TheVariants.{Text, Ends}
-use Rattle.commands.specs.declared.outcome.Ending.{Ending}
-use Rattle.commands.specs.declared.outcome.Ending.TheVariants as endings
-use Rattle.commands.specs.Line.{text_of_word}
-use Rattle.commands.specs.LinkedRun.{linked_setting}
-use Rattle.commands.specs.Phase.{is_linked as is_linked_file}
-use Rattle.commands.specs.World.{IsQuiet, IsUntaken}
-use Rattle.commands.specs.Linking.{files_of, OperandsFault}
-use Rattle.jop_cli.specs.Asking.{IsAnswer, AnswersLinked, Answers, PutsAnswer, AsksRead, AsksFiles}
+use Rattle.ask_commands.specs.declared.asking.Asked.{Asked}
+use Rattle.endings.specs.declared.outcome.Answer.{Answer}
+use Rattle.endings.specs.declared.outcome.Answer.TheVariants.{Text, Ends}
+use Rattle.endings.specs.declared.outcome.Ending.{Ending}
+use Rattle.endings.specs.declared.outcome.Ending.TheVariants as endings
+use Rattle.endings.specs.Line.{text_of_word}
+use Rattle.endings.specs.Settings.{linked_setting}
+use Rattle.endings.specs.Phase.{is_linked as is_linked_file}
+use Rattle.endings.specs.World.{IsQuiet, IsUntaken}
+use Rattle.endings.specs.Linking.{files_of, OperandsFault}
+use Rattle.ask_commands.specs.Asking.{IsAnswer, AnswersLinked, Answers, AsksRead, AsksFiles}
+use Rattle.endings.specs.Putting.{PutsAnswer}
 use Rattle.jop_cli.specs.Calls.{Call, NothingFailed, OperandsAreTold}
 use Rattle.jop_cli.proofs.Wholly.{same_files, files_read}
 use Rattle.jop_cli.proofs.RunningLaw.{begins_linked, is_read}

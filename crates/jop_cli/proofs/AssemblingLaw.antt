@@ -10,12 +10,12 @@ use Rattle.microcode_asm.specs.Programs.{word_count, places_of, fault_of}
 use Rattle.microcode_asm.specs.Roms.{IsProgram, IsAssembled, IsFirstRefused, HasTooManyWords, words_of}
 use Rattle.microcode_asm.specs.Listing.{listing_of}
 use Rattle.command_line.specs.declared.command.Command.TheVariants.{Asm as Assemble}
-use Rattle.commands.specs.declared.outcome.AsmRefusal.{AsmRefusal}
-use Rattle.commands.specs.declared.outcome.AsmRefusal.TheVariants as asm
-use Rattle.commands.specs.declared.outcome.Refusal.TheVariants as refusals
-use Rattle.commands.specs.declared.outcome.Ending.{Ending}
-use Rattle.commands.specs.declared.outcome.Ending.TheVariants as endings
-use Rattle.commands.specs.Assembling.{IsListing, IsNoProgram, Assembles}
+use Rattle.endings.specs.declared.outcome.AsmRefusal.{AsmRefusal}
+use Rattle.endings.specs.declared.outcome.AsmRefusal.TheVariants as asm
+use Rattle.endings.specs.declared.outcome.Refusal.TheVariants as refusals
+use Rattle.endings.specs.declared.outcome.Ending.{Ending}
+use Rattle.endings.specs.declared.outcome.Ending.TheVariants as endings
+use Rattle.ask_commands.specs.Assembling.{IsListing, IsNoProgram, Assembles}
 use Rattle.jop_cli.specs.Calls.{Call, NothingFailed, LacksMemory, IsTold}
 use Rattle.jop_cli.specs.promises.Asm.{IsListed, AssemblingIsComplete, AsmRefusalsAreAnswered, AsmRefusalsAreOne}
 use Rattle.jop_cli.specs.promises.Answers.{AnswersEnding}

@@ -4,24 +4,27 @@ use Rattle.lists.proofs.Lemmas.{none≢some, some_same}
 use Rattle.image_file.specs.Bare.{BareContent, IsBareFile}
 use Rattle.command_line.specs.declared.command.Settings.{Settings}
 use Rattle.jopizer.specs.Linked.{image_of}
-use Rattle.jop_cli.specs.declared.asking.Question.{Question}
-use Rattle.jop_cli.specs.declared.asking.Question.TheVariants as questions
-use Rattle.commands.specs.declared.outcome.Answer.{Answer}
-use Rattle.commands.specs.declared.outcome.Answer.TheVariants.{Text, Ends}
-use Rattle.commands.specs.declared.outcome.Refusal.TheVariants as refusals
-use Rattle.commands.specs.declared.outcome.Ending.{Ending}
-use Rattle.commands.specs.declared.outcome.Ending.TheVariants as endings
-use Rattle.commands.specs.declared.show.Show.{Show}
+use Rattle.ask_commands.specs.declared.asking.Question.{Question}
+use Rattle.ask_commands.specs.declared.asking.Question.TheVariants as questions
+use Rattle.endings.specs.declared.outcome.Answer.{Answer}
+use Rattle.endings.specs.declared.outcome.Answer.TheVariants.{Text, Ends}
+use Rattle.endings.specs.declared.outcome.Refusal.TheVariants as refusals
+use Rattle.endings.specs.declared.outcome.Ending.{Ending}
+use Rattle.endings.specs.declared.outcome.Ending.TheVariants as endings
+use Rattle.endings.specs.declared.show.Show.{Show}
 use Rattle.jop_cli.specs.declared.task.Task.{Task}
 use Rattle.jop_cli.specs.declared.task.Task.TheVariants as tasks
-use Rattle.commands.specs.Line.{text_of_word}
-use Rattle.commands.specs.World.{IsQuiet}
-use Rattle.commands.specs.BareFile.{blocks_of_code}
-use Rattle.commands.specs.Checking.{EndsTooLong, ChecksBare}
-use Rattle.commands.specs.Bounding.{BoundsBare}
-use Rattle.commands.specs.AllBounds.{SaysNoBound, EndsUnread}
-use Rattle.jop_cli.specs.Asking.{EndsBy, IsBareAnswer, PutsAnswer}
-use Rattle.jop_cli.specs.Profiling.{ProfilesBare}
+use Rattle.endings.specs.Line.{text_of_word}
+use Rattle.endings.specs.World.{IsQuiet}
+use Rattle.endings.specs.Fitting.{blocks_of_code}
+use Rattle.endings.specs.Fitting.{EndsTooLong}
+use Rattle.ask_commands.specs.Checking.{ChecksBare}
+use Rattle.ask_commands.specs.Bounding.{BoundsBare}
+use Rattle.ask_commands.specs.AllBounds.{SaysNoBound}
+use Rattle.endings.specs.AnalysisFaults.{EndsUnread}
+use Rattle.ask_commands.specs.Asking.{EndsBy, IsBareAnswer}
+use Rattle.endings.specs.Putting.{PutsAnswer}
+use Rattle.run_commands.specs.Profiling.{ProfilesBare}
 use Rattle.jop_cli.specs.Calls.{Call}
 use Rattle.jop_cli.specs.promises.Images.{OneBareImage}
 use Rattle.jop_cli.specs.promises.Refusals.{cache_asked, cache_needed, LongBareCodesAreRefused}

@@ -18,8 +18,8 @@ use Rattle.bound_rules.specs.Bounding.{IsCause}
 use Rattle.answer_lines.specs.declared.bound.BoundCause.{BoundCause}
 use Rattle.answer_lines.specs.declared.unanswered.Cause.TheVariants as unanswered
 use Rattle.answer_lines.specs.AnalysisLines.{cause_parts}
-use Rattle.analysis_commands.specs.declared.analysis.AnalysisFault.{AnalysisFault}
-use Rattle.analysis_commands.specs.declared.analysis.AnalysisFault.TheVariants as analysis
+use Rattle.answer_lines.specs.declared.analysis.AnalysisFault.{AnalysisFault}
+use Rattle.answer_lines.specs.declared.analysis.AnalysisFault.TheVariants as analysis
 use Rattle.analysis_commands.specs.declared.bound.NotBounded.{NotBounded}
 use Rattle.analysis_commands.specs.declared.bound.NotBounded.TheVariants as bound
 use Rattle.analysis_commands.specs.Analysis.{timing_of, bounds_of, named_or_number, IsAnalysisFault}
@@ -29,14 +29,14 @@ use Rattle.command_line.specs.declared.command.Settings.{Settings}
 use Rattle.command_line.specs.declared.command.Command.TheVariants.{Bound}
 use Rattle.jopizer.specs.Linked.{Parts}
 use Rattle.jopizer.specs.Laws.{OneLinked, LinkedImagesAreRead}
-use Rattle.commands.specs.declared.outcome.Refusal.TheVariants.{Bound as Forbidden}
-use Rattle.commands.specs.declared.outcome.Ending.{Ending}
-use Rattle.commands.specs.declared.outcome.Ending.TheVariants as endings
-use Rattle.commands.specs.declared.outcome.Outcome.TheVariants as outcomes
-use Rattle.commands.specs.Line.{line_of}
-use Rattle.commands.specs.World.{IsQuiet}
-use Rattle.commands.specs.Checking.{fault_ending}
-use Rattle.commands.specs.Bounding.{cause_ending, Bounds, EndsNotBounded}
+use Rattle.endings.specs.declared.outcome.Refusal.TheVariants.{Bound as Forbidden}
+use Rattle.endings.specs.declared.outcome.Ending.{Ending}
+use Rattle.endings.specs.declared.outcome.Ending.TheVariants as endings
+use Rattle.endings.specs.declared.outcome.Outcome.TheVariants as outcomes
+use Rattle.endings.specs.Line.{line_of}
+use Rattle.endings.specs.World.{IsQuiet}
+use Rattle.endings.specs.AnalysisFaults.{fault_ending}
+use Rattle.ask_commands.specs.Bounding.{cause_ending, Bounds, EndsNotBounded}
 use Rattle.jop_cli.specs.Tasks.{bounding}
 use Rattle.jop_cli.specs.Answer.{outcome_of}
 use Rattle.jop_cli.specs.Calls.{Call, NothingFailed, LacksMemory}

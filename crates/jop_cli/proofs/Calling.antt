@@ -8,7 +8,7 @@ use Rattle.std.proofs.lemmas.List.Elements.{All-get_or}
 use Rattle.std.proofs.lemmas.Bool.{cases_lt}
 use Rattle.outside.specs.Host.{StreamState, told_at}
 use Rattle.command_line.specs.Command.{texts}
-use Rattle.commands.specs.World.{World, world}
+use Rattle.endings.specs.World.{World, world}
 use Rattle.jop_cli.specs.Process.{IsStatus, IsNewStatus, IsCalledStatus, IsWordsStatus, Sinks}
 
 pub length_texts : (words : List (Bor (List ℕ))) → length (texts words) ≡ length words

@@ -17,9 +17,9 @@ use Rattle.command_line.specs.declared.command.Settings.{Settings}
 use Rattle.command_line.specs.Range.{AreSettings}
 use Rattle.jopizer.specs.Linked.{Parts}
 use Rattle.jopizer.specs.Laws.{OneLinked, LinkedImagesAreRead}
-use Rattle.commands.specs.declared.outcome.Refusal.TheVariants.{Bound as Forbidden}
-use Rattle.commands.specs.declared.outcome.Ending.{Ending}
-use Rattle.commands.specs.declared.outcome.Outcome.TheVariants as outcomes
+use Rattle.endings.specs.declared.outcome.Refusal.TheVariants.{Bound as Forbidden}
+use Rattle.endings.specs.declared.outcome.Ending.{Ending}
+use Rattle.endings.specs.declared.outcome.Outcome.TheVariants as outcomes
 use Rattle.jop_cli.specs.Answer.{outcome_of}
 use Rattle.jop_cli.specs.Calls.{Call, LacksMemory}
 use Rattle.jop_cli.specs.promises.Bound.{Forbids, AnswersForbidden, CausesAreAnswered, NamesTellMethods}

@@ -19,9 +19,9 @@ use Rattle.bound_rules.specs.Conditions.{MeetsConditions}
 use Rattle.bound_rules.specs.Refused.{IsCertRefused}
 use Rattle.bound_rules.specs.Laws.{FaultsAreOne, RefusedIsNotMet}
 use Rattle.answer_lines.specs.AnalysisLines.{held_parts, fault_parts}
-use Rattle.analysis_commands.specs.declared.analysis.AnalysisFault.{AnalysisFault}
-use Rattle.analysis_commands.specs.declared.analysis.AnalysisFault.TheVariants as analysis
-use Rattle.analysis_commands.specs.declared.check.Held.{Held}
+use Rattle.answer_lines.specs.declared.analysis.AnalysisFault.{AnalysisFault}
+use Rattle.answer_lines.specs.declared.analysis.AnalysisFault.TheVariants as analysis
+use Rattle.answer_lines.specs.declared.analysis.Held.{Held}
 use Rattle.analysis_commands.specs.declared.check.CheckRefusal.{CheckRefusal}
 use Rattle.analysis_commands.specs.declared.check.CheckRefusal.TheVariants as check
 use Rattle.analysis_commands.specs.Analysis.{timing_of, bounds_of, IsAnalysisFault}
@@ -31,14 +31,15 @@ use Rattle.command_line.specs.declared.command.Settings.{Settings}
 use Rattle.command_line.specs.declared.command.Command.TheVariants.{Check}
 use Rattle.jopizer.specs.Linked.{Parts}
 use Rattle.jopizer.specs.Laws.{OneLinked, LinkedImagesAreRead}
-use Rattle.commands.specs.declared.outcome.Refusal.TheVariants.{Check as NotChecked}
-use Rattle.commands.specs.declared.outcome.Ending.{Ending}
-use Rattle.commands.specs.declared.outcome.Ending.TheVariants as endings
-use Rattle.commands.specs.declared.outcome.Outcome.{Outcome}
-use Rattle.commands.specs.declared.outcome.Outcome.TheVariants as outcomes
-use Rattle.commands.specs.Line.{line_of}
-use Rattle.commands.specs.World.{IsQuiet}
-use Rattle.commands.specs.Checking.{fault_ending, refusal_ending, Checks, EndsHeld, EndsRefused}
+use Rattle.endings.specs.declared.outcome.Refusal.TheVariants.{Check as NotChecked}
+use Rattle.endings.specs.declared.outcome.Ending.{Ending}
+use Rattle.endings.specs.declared.outcome.Ending.TheVariants as endings
+use Rattle.endings.specs.declared.outcome.Outcome.{Outcome}
+use Rattle.endings.specs.declared.outcome.Outcome.TheVariants as outcomes
+use Rattle.endings.specs.Line.{line_of}
+use Rattle.endings.specs.World.{IsQuiet}
+use Rattle.endings.specs.AnalysisFaults.{fault_ending}
+use Rattle.ask_commands.specs.Checking.{refusal_ending, Checks, EndsHeld, EndsRefused}
 use Rattle.jop_cli.specs.Tasks.{checking}
 use Rattle.jop_cli.specs.Answer.{outcome_of}
 use Rattle.jop_cli.specs.Calls.{Call, NothingFailed, LacksMemory}

@@ -23,11 +23,11 @@ use Rattle.boundary.specs.Runs.{IsRun, RunsOn, IsEnd}
 use Rattle.boundary.specs.Traces.{TracesOn, unnoted, run_text}
 use Rattle.run_devices.specs.Lent.{Lent, wired}
 use Rattle.answer_lines.specs.declared.line.Counts.{Counts}
-use Rattle.commands.specs.declared.outcome.Ending.TheVariants as endings
-use Rattle.commands.specs.Show.{Shown, Output, Trace}
-use Rattle.commands.specs.Run as run
-use Rattle.commands.specs.Run.{AreCounts, Ran}
-use Rattle.commands.specs.LinkedFile.{NamesClass}
+use Rattle.endings.specs.declared.outcome.Ending.TheVariants as endings
+use Rattle.endings.specs.Show.{Shown, Output, Trace}
+use Rattle.run_commands.specs.Run as run
+use Rattle.run_commands.specs.Run.{AreCounts, Ran}
+use Rattle.run_commands.specs.LinkedFile.{NamesClass}
 use Rattle.jop_cli.specs.Calls.{Call}
 use Rattle.jop_cli.specs.Courses.{AnswersMode, RanProgram, TracedProgram, RanShown}
 use Rattle.jop_cli.proofs.Wholly.{IsWholly}

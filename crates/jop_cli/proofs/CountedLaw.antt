@@ -14,8 +14,8 @@ use Rattle.activation_laws.specs.Counted.Runs.{IsOfBootRun, CountedLoopsOfRuns}
 use Rattle.activation_laws.specs.Counted.FurtherRuns.{FurtherLoopsOfRuns}
 use Rattle.jop_core.specs.Reset.{linked_reset}
 use Rattle.analysis_commands.specs.Analysis.{timing_of}
-use Rattle.commands.specs.Show.{linked_shown}
-use Rattle.commands.specs.LinkedRun.{linked_setting}
+use Rattle.endings.specs.Show.{linked_shown}
+use Rattle.endings.specs.Settings.{linked_setting}
 use Rattle.jop_cli.specs.Answer.{lent_of}
 use Rattle.jop_cli.specs.promises.Activations.{BoundInRun}
 use Rattle.jop_cli.specs.promises.Loops.{CountedLoopsAreKept, FurtherLoopsAreKept}

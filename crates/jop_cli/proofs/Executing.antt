@@ -2,28 +2,29 @@
 use Rattle.std.proofs.Common.{◌≡◌, ℕ, Bool, true, false, List, Ok, refl, sym, ◌∙◌, ap, subst, inl, inr, ⊎_elim}
 use Rattle.std.specs.declared.option.Option.{Option}
 use Rattle.std.specs.declared.result.Result.{Result}
-use Rattle.commands.specs.declared.show.Show.{Show}
-use Rattle.commands.specs.declared.show.Show.TheVariants as shows
-use Rattle.commands.specs.Show.{IsTrace}
+use Rattle.endings.specs.declared.show.Show.{Show}
+use Rattle.endings.specs.declared.show.Show.TheVariants as shows
+use Rattle.endings.specs.Show.{IsTrace}
 use Rattle.command_line.specs.declared.command.Settings.{Settings}
 use Rattle.command_line.specs.declared.command.Command.{Command}
 use Rattle.command_line.specs.declared.command.Command.TheVariants as commands
 use Rattle.command_line.specs.Command.{command_of}
-use Rattle.commands.specs.declared.outcome.Ending.{Ending}
-use Rattle.commands.specs.declared.outcome.Ending.TheVariants as endings
-use Rattle.commands.specs.Leaving.{FailsRisen}
-use Rattle.commands.specs.Assembling.{Assembles}
-use Rattle.commands.specs.Linking.{LinksFiles}
-use Rattle.jop_cli.specs.declared.asking.Question.{Question}
-use Rattle.jop_cli.specs.declared.asking.Asked.{Asked}
-use Rattle.commands.specs.declared.outcome.Answer.{Answer}
-use Rattle.commands.specs.declared.outcome.Answer.TheVariants.{Text, Ends}
-use Rattle.commands.specs.Line.{text_of_word}
-use Rattle.jop_cli.specs.Asking.{Answers, PutsAnswer, AsksFiles}
-use Rattle.commands.specs.Phase.{is_linked}
-use Rattle.commands.specs.BareFile.{RunsBareBytes}
-use Rattle.commands.specs.LinkedFile.{RunsLinkedBytes}
-use Rattle.commands.specs.World.{World, IsUntaken, Reads}
+use Rattle.endings.specs.declared.outcome.Ending.{Ending}
+use Rattle.endings.specs.declared.outcome.Ending.TheVariants as endings
+use Rattle.endings.specs.Leaving.{FailsRisen}
+use Rattle.ask_commands.specs.Assembling.{Assembles}
+use Rattle.endings.specs.Linking.{LinksFiles}
+use Rattle.ask_commands.specs.declared.asking.Question.{Question}
+use Rattle.ask_commands.specs.declared.asking.Asked.{Asked}
+use Rattle.endings.specs.declared.outcome.Answer.{Answer}
+use Rattle.endings.specs.declared.outcome.Answer.TheVariants.{Text, Ends}
+use Rattle.endings.specs.Line.{text_of_word}
+use Rattle.ask_commands.specs.Asking.{Answers, AsksFiles}
+use Rattle.endings.specs.Putting.{PutsAnswer}
+use Rattle.endings.specs.Phase.{is_linked}
+use Rattle.run_commands.specs.BareFile.{RunsBareBytes}
+use Rattle.run_commands.specs.LinkedFile.{RunsLinkedBytes}
+use Rattle.endings.specs.World.{World, IsUntaken, Reads}
 use Rattle.jop_cli.specs.declared.task.Task.{Task}
 use Rattle.jop_cli.specs.declared.task.Task.TheVariants as tasks
 use Rattle.jop_cli.specs.Tasks.{task_of}

@@ -11,7 +11,7 @@ use Rattle.name_laws.specs.Written.{written, written_name}
 use Rattle.program_resolution.proofs.NameLemmas.{same_self}
 use Rattle.jopizer.specs.Laws.{MainIsThere}
 use Rattle.analysis_commands.specs.Analysis.{named_or_number, number_text}
-use Rattle.slot_plans.specs.Plan.{executive_name, IsCyclicMain, IsExecutive}
+use Rattle.analysis_commands.specs.Executive.{executive_name, IsCyclicMain, IsExecutive}
 use Rattle.jop_cli.specs.promises.Plan.{ExecutivesAreThere}
 
 -- ---- the first number that passes a test

@@ -35,8 +35,8 @@ use Rattle.boundary.proofs.Answered.{reached}
 use Rattle.run_devices.specs.Lent.{Lent, wired}
 use Rattle.run_devices.specs.Traced.{traced}
 use Rattle.jopizer.specs.Linked.{Parts}
-use Rattle.commands.specs.Show.{Shown, Output, Trace, linked_shown}
-use Rattle.commands.specs.LinkedRun.{linked_setting}
+use Rattle.endings.specs.Show.{Shown, Output, Trace, linked_shown}
+use Rattle.endings.specs.Settings.{linked_setting}
 use Rattle.jop_cli.specs.Answer.{lent_of}
 use Rattle.jop_cli.specs.Calls.{Call}
 use Rattle.jop_cli.specs.Courses.{RanShown}

@@ -13,9 +13,9 @@ use Rattle.boundary.specs.Runs.{Goes}
 use Rattle.run_devices.specs.Lent.{Lent}
 use Rattle.command_line.specs.declared.command.Settings.{Settings}
 use Rattle.analysis_commands.specs.Analysis.{timing_of}
-use Rattle.commands.specs.Phase.{HasSettings}
-use Rattle.commands.specs.Show.{Shown, Output, Trace, linked_shown}
-use Rattle.commands.specs.LinkedRun.{linked_setting}
+use Rattle.endings.specs.Phase.{HasSettings}
+use Rattle.endings.specs.Show.{Shown, Output, Trace, linked_shown}
+use Rattle.endings.specs.Settings.{linked_setting}
 use Rattle.jop_cli.specs.Calls.{Call}
 use Rattle.jop_cli.specs.Courses.{RanShown}
 use Rattle.jop_cli.specs.Answer.{lent_of}

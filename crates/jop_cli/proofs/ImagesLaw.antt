@@ -13,15 +13,15 @@ use Rattle.jopizer.specs.Linked.{image_of}
 use Rattle.jopizer.specs.Images.{IsDifference, DiffersFirst}
 use Rattle.jopizer.specs.Laws.{LinkedImagesAreRead, LinkedFilesAreNotRefused, RefusalsAreOne}
 use Rattle.jopizer.proofs.OneLemmas.{OneClass, same_program}
-use Rattle.commands.specs.declared.outcome.Refusal.TheVariants as refusals
-use Rattle.commands.specs.declared.outcome.Ending.{Ending}
-use Rattle.commands.specs.declared.outcome.Ending.TheVariants as endings
+use Rattle.endings.specs.declared.outcome.Refusal.TheVariants as refusals
+use Rattle.endings.specs.declared.outcome.Ending.{Ending}
+use Rattle.endings.specs.declared.outcome.Ending.TheVariants as endings
 use Rattle.jop_cli.specs.declared.task.Task.{Task}
-use Rattle.commands.specs.Phase.{is_linked}
-use Rattle.commands.specs.World.{IsQuiet}
-use Rattle.commands.specs.Linking.{RefusesFiles, HasName}
-use Rattle.commands.specs.BareFile.{ImageFault}
-use Rattle.commands.specs.LinkedFile.{BytesFault}
+use Rattle.endings.specs.Phase.{is_linked}
+use Rattle.endings.specs.World.{IsQuiet}
+use Rattle.endings.specs.Linking.{RefusesFiles, HasName}
+use Rattle.endings.specs.Opening.{ImageFault}
+use Rattle.endings.specs.Opening.{BytesFault}
 use Rattle.jop_cli.specs.Calls.{Call, LacksMemory}
 use Rattle.jop_cli.specs.promises.Answers.{AnswersEnding, AnswersRefusal}
 use Rattle.jop_cli.specs.promises.Images.{NoImageIsBoth}

@@ -11,21 +11,23 @@ use Rattle.command_line.specs.declared.command.Settings.{Settings}
 use Rattle.command_line.specs.declared.command.Command.TheVariants.{Check, Bound}
 use Rattle.answer_lines.specs.AnalysisLines.{held_parts}
 use Rattle.analysis_commands.specs.Analysis.{timing_of, bounds_of}
-use Rattle.commands.specs.declared.outcome.Answer.{Answer}
-use Rattle.commands.specs.declared.outcome.Answer.TheVariants.{Text, Ends}
-use Rattle.commands.specs.declared.outcome.Ending.{Ending}
-use Rattle.commands.specs.declared.outcome.Outcome.TheVariants as outcomes
-use Rattle.commands.specs.Line.{text_of_word, line_of}
-use Rattle.commands.specs.Linking.{files_of}
-use Rattle.commands.specs.Checking.{refusal_ending, EndsHeld}
-use Rattle.commands.specs.Bounding.{Bounds}
-use Rattle.jop_cli.specs.Asking.{AnswersLinked, Answers, PutsAnswer, AsksRead, AsksFiles}
+use Rattle.endings.specs.declared.outcome.Answer.{Answer}
+use Rattle.endings.specs.declared.outcome.Answer.TheVariants.{Text, Ends}
+use Rattle.endings.specs.declared.outcome.Ending.{Ending}
+use Rattle.endings.specs.declared.outcome.Outcome.TheVariants as outcomes
+use Rattle.endings.specs.Line.{text_of_word, line_of}
+use Rattle.endings.specs.Linking.{files_of}
+use Rattle.ask_commands.specs.Checking.{refusal_ending, EndsHeld}
+use Rattle.ask_commands.specs.Bounding.{Bounds}
+use Rattle.ask_commands.specs.Asking.{AnswersLinked, Answers, AsksRead, AsksFiles}
+use Rattle.endings.specs.Putting.{PutsAnswer}
 use Rattle.jop_cli.specs.Tasks.{checking, bounding}
 use Rattle.jop_cli.specs.Answer.{outcome_of}
 use Rattle.jop_cli.specs.Calls.{Call}
 use Rattle.jop_cli.specs.promises.Check.{ShowsHeld, CheckedBoundsAreKept}
 use Rattle.jop_cli.specs.promises.Bound.{ShowsWritten, WrittenBoundsAreKept}
-use Rattle.jop_cli.proofs.Refusing.{IsRefusing, not_written, not_holds, refusal_refuses, cause_refuses, refusing_by, bytes_refuse, image_refuses, operands_refuse, bare_refuses}
+use Rattle.jop_cli.proofs.Refusing.{IsRefusing, not_written, not_holds, refusal_refuses, cause_refuses}
+use Rattle.jop_cli.proofs.Refusing.{refusing_by, bytes_refuse, image_refuses, operands_refuse, bare_refuses}
 use Rattle.jop_cli.proofs.Wholly.{IsWholly, wholly_written, wholly_held, executed}
 
 -- ---- `check`

@@ -1,9 +1,10 @@
 -- The outside is as it was after an outcome, where it is so after its ending.
 use Rattle.std.proofs.Common.{ℕ}
-use Rattle.commands.specs.declared.outcome.Ending.{Ending}
-use Rattle.commands.specs.declared.outcome.Ending.TheVariants.{Ended, Written, Linked, Holds, Uncaught, Refused, TooLong, NotLinked, NotHeld, NotAnswered, Spent, CycleEnded, CycleUncaught, CycleSpent, ReadFault, InputFault, WriteFault, NoMemory}
+use Rattle.endings.specs.declared.outcome.Ending.{Ending}
+use Rattle.endings.specs.declared.outcome.Ending.TheVariants.{Ended, Written, Linked, Holds, Uncaught, Refused, TooLong, NotLinked, NotHeld}
+use Rattle.endings.specs.declared.outcome.Ending.TheVariants.{NotAnswered, Spent, CycleEnded, CycleUncaught, CycleSpent, ReadFault, InputFault, WriteFault, NoMemory}
 use Rattle.jop_cli.specs.Answer.{outcome_of, outcome_unsaid}
-use Rattle.commands.specs.Leaving.{Leaves, FailsRisen, LeavesAll}
+use Rattle.endings.specs.Leaving.{Leaves, FailsRisen, LeavesAll}
 
 pub leaves_said : (ending : Ending) (before now : ℕ) → FailsRisen ending before now → LeavesAll (outcome_of ending) before now → Leaves ending
 leaves_said (Ended counts) before now risen all = all

@@ -1,7 +1,5 @@
 pub mod Refusing
 pub mod Executing
-mod InRuns
-mod Profiled
 mod Calling
 mod Wholly
 mod Coming
@@ -22,11 +20,8 @@ mod LoopsLaw
 mod CountedLaw
 mod NotedLaw
 mod Planned
-mod Cycled
 mod NeedsLaw
 mod Leaving
-mod Least
-mod Texts
 mod OneBare
 mod WorkingLaw
 mod Told

@@ -7,11 +7,11 @@ use Rattle.jopizer.specs.declared.refusal.LinkRefusal.TheVariants as links
 use Rattle.jopizer.specs.Linked.{AreLinked}
 use Rattle.jopizer.specs.Refused.{IsLinkRefusal}
 use Rattle.jopizer.specs.Laws.{LinkedFilesAreNotRefused, RefusalsAreOne}
-use Rattle.commands.specs.declared.outcome.Ending.{Ending}
-use Rattle.commands.specs.declared.outcome.Ending.TheVariants as endings
-use Rattle.commands.specs.Line.{text_of_word}
-use Rattle.commands.specs.World.{IsUntaken}
-use Rattle.commands.specs.Linking.{class_name, RefusesFiles, HasName, AreLinkedTo, PutsLinked, LinksRead, LinksFiles}
+use Rattle.endings.specs.declared.outcome.Ending.{Ending}
+use Rattle.endings.specs.declared.outcome.Ending.TheVariants as endings
+use Rattle.endings.specs.Line.{text_of_word}
+use Rattle.endings.specs.World.{IsUntaken}
+use Rattle.endings.specs.Linking.{class_name, RefusesFiles, HasName, AreLinkedTo, PutsLinked, LinksRead, LinksFiles}
 use Rattle.jop_cli.specs.Calls.{Call, NothingFailed, LacksMemory, OperandsAreTold}
 use Rattle.jop_cli.specs.promises.Link.{IsLinkedBy, LinkingIsComplete, LinkRefusalsAreAnswered, LinkRefusalsAreOne}
 use Rattle.jop_cli.specs.promises.Answers.{AnswersEnding, AnswersRefusal}

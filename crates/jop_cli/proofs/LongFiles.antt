@@ -1,15 +1,15 @@
 -- Words that give no command, and files that are too long together, are answered.
 use Rattle.std.proofs.Common.{ℕ, ◌+◌, ◌<◌, Err, refl, subst, arith, inl, inr, ⊎_elim}
 use Rattle.command_line.specs.Command.{command_of}
-use Rattle.commands.specs.declared.outcome.Refusal.{Refusal}
-use Rattle.commands.specs.declared.outcome.Refusal.TheVariants as refusals
-use Rattle.commands.specs.declared.outcome.Ending.{Ending}
-use Rattle.commands.specs.declared.outcome.Ending.TheVariants as endings
+use Rattle.endings.specs.declared.outcome.Refusal.{Refusal}
+use Rattle.endings.specs.declared.outcome.Refusal.TheVariants as refusals
+use Rattle.endings.specs.declared.outcome.Ending.{Ending}
+use Rattle.endings.specs.declared.outcome.Ending.TheVariants as endings
 use Rattle.jop_cli.specs.declared.task.Task.{Task}
 use Rattle.jop_cli.specs.declared.task.Task.TheVariants as tasks
-use Rattle.commands.specs.World.{IsQuiet}
+use Rattle.endings.specs.World.{IsQuiet}
 use Rattle.jop_cli.specs.Tasks.{task_of}
-use Rattle.commands.specs.Assembling.{NotAssembled, Assembles}
+use Rattle.ask_commands.specs.Assembling.{NotAssembled, Assembles}
 use Rattle.jop_cli.specs.Answer.{Does, DoesTask}
 use Rattle.jop_cli.specs.Calls.{Call, NothingFailed}
 use Rattle.jop_cli.specs.promises.Answers.{AnswersEnding}

@@ -10,15 +10,16 @@ use Rattle.class_pool.specs.declared.class.ClassFile.{ClassFile}
 use Rattle.program_tables.specs.Resolved.{resolved}
 use Rattle.activation_laws.specs.Counted.Found.{FoundLoopsCount}
 use Rattle.activation_laws.specs.Counted.FurtherRuns.{FurtherFoundLoopsCount}
-use Rattle.commands.specs.declared.outcome.Answer.{Answer}
-use Rattle.commands.specs.declared.outcome.Answer.TheVariants.{Text, Ends}
-use Rattle.commands.specs.declared.outcome.Ending.{Ending}
-use Rattle.commands.specs.declared.outcome.Ending.TheVariants as endings
-use Rattle.commands.specs.declared.outcome.Outcome.TheVariants as outcomes
-use Rattle.commands.specs.Line.{text_of_word}
-use Rattle.commands.specs.Needs.{AnswersLoops}
-use Rattle.commands.specs.Linking.{files_of}
-use Rattle.jop_cli.specs.Asking.{AnswersLinked, AnswersBare, Answers, PutsAnswer, AsksRead, AsksFiles}
+use Rattle.endings.specs.declared.outcome.Answer.{Answer}
+use Rattle.endings.specs.declared.outcome.Answer.TheVariants.{Text, Ends}
+use Rattle.endings.specs.declared.outcome.Ending.{Ending}
+use Rattle.endings.specs.declared.outcome.Ending.TheVariants as endings
+use Rattle.endings.specs.declared.outcome.Outcome.TheVariants as outcomes
+use Rattle.endings.specs.Line.{text_of_word}
+use Rattle.ask_commands.specs.Needs.{AnswersLoops}
+use Rattle.endings.specs.Linking.{files_of}
+use Rattle.ask_commands.specs.Asking.{AnswersLinked, AnswersBare, Answers, AsksRead, AsksFiles}
+use Rattle.endings.specs.Putting.{PutsAnswer}
 use Rattle.jop_cli.specs.Tasks.{finding_loops}
 use Rattle.jop_cli.specs.Answer.{outcome_of}
 use Rattle.jop_cli.specs.Calls.{Call}

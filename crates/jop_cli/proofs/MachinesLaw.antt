@@ -12,8 +12,8 @@ use Rattle.jopizer.specs.Methods.Fitting.{MethodFits, IsFirst, code_blocks}
 use Rattle.image_file.specs.Linked as file
 use Rattle.image_words.specs.Regions.{image_words_of}
 use Rattle.slot_table.specs.declared.slot.Slot.{Slot}
-use Rattle.analysis_commands.specs.declared.analysis.AnalysisFault.{AnalysisFault}
-use Rattle.analysis_commands.specs.declared.analysis.AnalysisFault.TheVariants as analysis
+use Rattle.answer_lines.specs.declared.analysis.AnalysisFault.{AnalysisFault}
+use Rattle.answer_lines.specs.declared.analysis.AnalysisFault.TheVariants as analysis
 use Rattle.analysis_commands.specs.declared.check.CheckRefusal.{CheckRefusal}
 use Rattle.analysis_commands.specs.declared.check.CheckRefusal.TheVariants as check
 use Rattle.analysis_commands.specs.declared.bound.NotBounded.{NotBounded}
@@ -29,34 +29,38 @@ use Rattle.command_line.specs.declared.command.Settings.{Settings}
 use Rattle.jopizer.specs.Linked.{Parts, IsLinked, image_of}
 use Rattle.jopizer.specs.Laws.{OneLinked, LinkedImagesAreRead}
 use Rattle.jopizer.proofs.OneLemmas.{OneClass, same_program}
-use Rattle.jop_cli.specs.declared.asking.Question.{Question}
-use Rattle.jop_cli.specs.declared.asking.Question.TheVariants as questions
-use Rattle.commands.specs.declared.outcome.Answer.{Answer}
-use Rattle.commands.specs.declared.outcome.Answer.TheVariants.{Text, Ends}
-use Rattle.commands.specs.declared.outcome.Refusal.TheVariants as refusals
-use Rattle.commands.specs.declared.outcome.Ending.{Ending}
-use Rattle.commands.specs.declared.outcome.Ending.TheVariants as endings
-use Rattle.commands.specs.declared.show.Show.{Show}
+use Rattle.ask_commands.specs.declared.asking.Question.{Question}
+use Rattle.ask_commands.specs.declared.asking.Question.TheVariants as questions
+use Rattle.endings.specs.declared.outcome.Answer.{Answer}
+use Rattle.endings.specs.declared.outcome.Answer.TheVariants.{Text, Ends}
+use Rattle.endings.specs.declared.outcome.Refusal.TheVariants as refusals
+use Rattle.endings.specs.declared.outcome.Ending.{Ending}
+use Rattle.endings.specs.declared.outcome.Ending.TheVariants as endings
+use Rattle.endings.specs.declared.show.Show.{Show}
 use Rattle.jop_cli.specs.declared.task.Task.{Task}
 use Rattle.jop_cli.specs.declared.task.Task.TheVariants as tasks
-use Rattle.commands.specs.Line.{text_of_word}
-use Rattle.commands.specs.World.{IsQuiet}
-use Rattle.commands.specs.LinkedSettings.{CodesFit, IsTooLong}
-use Rattle.commands.specs.LinkedFile.{NamesMethod, IsUnheld, EndsAs}
-use Rattle.commands.specs.Checking.{fault_ending, refusal_ending, Checks}
-use Rattle.commands.specs.Bounding.{cause_ending, Bounds, EndsNotBounded}
-use Rattle.commands.specs.AllBounds.{SaysBounds, EndsUnanalysed}
-use Rattle.commands.specs.Reporting.{SaysReport}
-use Rattle.jop_cli.specs.Asking.{EndsBy, IsAnswer, PutsAnswer}
-use Rattle.commands.specs.Executive.{executive_class, with_executive, IsLinkedOf, IsLinkedWith}
-use Rattle.jop_cli.specs.Planning.{plan_ending}
-use Rattle.jop_cli.specs.Profiling.{ProfilesLinked, unwatched}
+use Rattle.endings.specs.Line.{text_of_word}
+use Rattle.endings.specs.World.{IsQuiet}
+use Rattle.endings.specs.Fitting.{CodesFit, IsTooLong}
+use Rattle.endings.specs.Fitting.{NamesMethod, IsUnheld}
+use Rattle.run_commands.specs.LinkedFile.{EndsAs}
+use Rattle.endings.specs.AnalysisFaults.{fault_ending}
+use Rattle.ask_commands.specs.Checking.{refusal_ending, Checks}
+use Rattle.ask_commands.specs.Bounding.{cause_ending, Bounds, EndsNotBounded}
+use Rattle.ask_commands.specs.AllBounds.{SaysBounds, EndsUnanalysed}
+use Rattle.ask_commands.specs.Reporting.{SaysReport}
+use Rattle.ask_commands.specs.Asking.{EndsBy, IsAnswer}
+use Rattle.endings.specs.Putting.{PutsAnswer}
+use Rattle.endings.specs.Executive.{executive_class, with_executive, IsLinkedOf, IsLinkedWith}
+use Rattle.slot_plans.specs.Planning.{plan_ending}
+use Rattle.run_commands.specs.Profiling.{ProfilesLinked, unwatched}
 use Rattle.jop_cli.specs.Answer.{lent_of}
 use Rattle.jop_cli.specs.Calls.{Call, NothingFailed, LacksMemory}
 use Rattle.jop_cli.specs.promises.Answers.{AnswersEnding}
 use Rattle.jop_cli.specs.promises.Plan.{IsPlanned, puts, says, lacks, PlansAreAnswered}
 use Rattle.jop_cli.specs.promises.Cycle.{IsCycled, lacks, ran, unheld, CyclesAreRuns}
-use Rattle.jop_cli.specs.promises.Refusals.{TakesImage, cache_asked, cache_needed, memory_needed, of_image, of_plan, of_cycle, AnswersTooLong, LongMethodsAreRefused, SmallMemoriesAreRefused}
+use Rattle.jop_cli.specs.promises.Refusals.{TakesImage, cache_asked, cache_needed, memory_needed, of_image}
+use Rattle.jop_cli.specs.promises.Refusals.{of_plan, of_cycle, AnswersTooLong, LongMethodsAreRefused, SmallMemoriesAreRefused}
 use Rattle.jop_cli.proofs.Wholly.{IsWholly, wholly, quiet_of}
 use Rattle.jop_cli.proofs.Wholly as whole
 use Rattle.jop_cli.proofs.RunningLaw.{begins_linked, begins_bare, is_read, not_more}

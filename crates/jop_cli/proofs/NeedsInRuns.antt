@@ -17,9 +17,9 @@ use Rattle.boundary.specs.Runs.{Goes, input_of}
 use Rattle.boundary.specs.Start.{VerifiedProgramsAreTold}
 use Rattle.boundary.proofs.Answered.{reached}
 use Rattle.command_line.specs.declared.command.Command.TheVariants as commands
-use Rattle.commands.specs.declared.outcome.Answer.TheVariants.{Text}
-use Rattle.commands.specs.Show.{linked_shown}
-use Rattle.commands.specs.LinkedRun.{linked_setting}
+use Rattle.endings.specs.declared.outcome.Answer.TheVariants.{Text}
+use Rattle.endings.specs.Show.{linked_shown}
+use Rattle.endings.specs.Settings.{linked_setting}
 use Rattle.jop_cli.specs.Tasks.{needing}
 use Rattle.jop_cli.specs.Answer.{lent_of}
 use Rattle.jop_cli.specs.promises.Memory.{NeedsSuffice, NeedsAreShown, NeedInRun, HasKept, NeedsSufficeInRuns}

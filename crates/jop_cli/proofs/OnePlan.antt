@@ -21,9 +21,10 @@ use Rattle.bound_rules.specs.Laws.{MethodsHaveCode, PrintedIsOne}
 use Rattle.bound_rules.specs.Numbers.{IsPrinted}
 use Rattle.bound_laws.specs.Existing.{CallsEndWithoutRecursion}
 use Rattle.analysis_commands.specs.Analysis.{bounds_of, named_or_number, timing_of}
-use Rattle.slot_plans.specs.Plan.{IsPlan, IsPlanOf, IsSlotMethod, IsSlotBound, IsCyclicMain, KeepsLength, plan_lines_from}
+use Rattle.slot_plans.specs.Plan.{IsPlan, IsPlanOf, IsSlotBound, KeepsLength, plan_lines_from}
+use Rattle.analysis_commands.specs.Executive.{IsSlotMethod, IsCyclicMain}
 use Rattle.jop_cli.specs.promises.Plan.{PlansAreOne}
-use Rattle.jop_cli.proofs.Least.{one_least}
+use Rattle.run_commands.proofs.Least.{one_least}
 
 -- a value that is there
 there : {X : Type 0} (o : Option X) → IsSome o → (x : X) × (o ≡ Some x)

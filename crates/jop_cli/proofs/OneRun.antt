@@ -1,5 +1,6 @@
 -- A run is one: from one beginning, with one input, it comes to one end.
-use Rattle.std.proofs.Common.{◌≡◌, ℕ, zero, suc, pred, ◌+◌, ◌<◌, Bool, true, false, List, [], ◌∷◌, ◌++◌, length, Option, Some, refl, sym, ◌∙◌, ap, ap₂, subst, arith, length-append, append-nil, ⊎_elim}
+use Rattle.std.proofs.Common.{◌≡◌, ℕ, zero, suc, pred, ◌+◌, ◌<◌, Bool, true, false, List, [], ◌∷◌}
+use Rattle.std.proofs.Common.{◌++◌, length, Option, Some, refl, sym, ◌∙◌, ap, ap₂, subst, arith, length-append, append-nil, ⊎_elim}
 use Rattle.std.specs.Prelude.{slice_get}
 use Rattle.std.proofs.lemmas.Bool.{cases_lt}
 use Rattle.std.proofs.lemmas.List.{append_cancel_left}
@@ -28,10 +29,10 @@ use Rattle.run_devices.specs.Lent.{wired}
 use Rattle.run_devices.specs.Traced.{traced}
 use Rattle.command_line.specs.declared.command.Settings.{Settings}
 use Rattle.jopizer.specs.Linked.{Parts}
-use Rattle.commands.specs.declared.show.Show.{Show}
-use Rattle.commands.specs.declared.show.Show.TheVariants as shows
-use Rattle.commands.specs.Phase.{HasSettings}
-use Rattle.commands.specs.LinkedRun.{linked_setting}
+use Rattle.endings.specs.declared.show.Show.{Show}
+use Rattle.endings.specs.declared.show.Show.TheVariants as shows
+use Rattle.endings.specs.Phase.{HasSettings}
+use Rattle.endings.specs.Settings.{linked_setting}
 use Rattle.jop_cli.specs.Answer.{lent_of}
 use Rattle.jop_cli.specs.Calls.{Call}
 use Rattle.jop_cli.specs.Courses.{AnswersMode, RanLinked}

@@ -4,22 +4,25 @@ use Rattle.image_file.specs.Bare.{BareContent, IsBareFile}
 use Rattle.image_file.specs.Linked as file
 use Rattle.jopizer.specs.Linked.{Parts, IsLinked, image_of}
 use Rattle.command_line.specs.declared.command.Settings.{Settings}
-use Rattle.jop_cli.specs.declared.asking.Asked.{Asked}
-use Rattle.commands.specs.declared.outcome.Answer.{Answer}
-use Rattle.commands.specs.declared.outcome.Answer.TheVariants.{Text, Ends}
-use Rattle.commands.specs.declared.outcome.Ending.{Ending}
-use Rattle.commands.specs.declared.outcome.Ending.TheVariants as endings
-use Rattle.commands.specs.declared.show.Show.{Show}
+use Rattle.ask_commands.specs.declared.asking.Asked.{Asked}
+use Rattle.endings.specs.declared.outcome.Answer.{Answer}
+use Rattle.endings.specs.declared.outcome.Answer.TheVariants.{Text, Ends}
+use Rattle.endings.specs.declared.outcome.Ending.{Ending}
+use Rattle.endings.specs.declared.outcome.Ending.TheVariants as endings
+use Rattle.endings.specs.declared.show.Show.{Show}
 use Rattle.jop_cli.specs.declared.task.Task.{Task}
 use Rattle.jop_cli.specs.declared.task.Task.TheVariants as tasks
-use Rattle.commands.specs.Line.{text_of_word}
-use Rattle.commands.specs.Phase.{is_linked}
-use Rattle.commands.specs.World.{IsQuiet, IsUntaken, Reads}
-use Rattle.commands.specs.BareFile.{ImageFault, IsCodeTooLong, RanImageWith, RunsBareBytes}
-use Rattle.commands.specs.LinkedFile.{BytesFault, EndsAs, RunsLinkedBytes}
-use Rattle.commands.specs.Opening.{OpenFault}
-use Rattle.jop_cli.specs.Asking.{IsAnswer, IsBareAnswer, Answers, PutsAnswer, AsksFiles}
-use Rattle.jop_cli.specs.Profiling.{ProfilesLinked, ProfilesBare, ProfilesImage, ProfilesFiles, unwatched}
+use Rattle.endings.specs.Line.{text_of_word}
+use Rattle.endings.specs.Phase.{is_linked}
+use Rattle.endings.specs.World.{IsQuiet, IsUntaken, Reads}
+use Rattle.endings.specs.Opening.{ImageFault}
+use Rattle.run_commands.specs.BareFile.{IsCodeTooLong, RanImageWith, RunsBareBytes}
+use Rattle.endings.specs.Opening.{BytesFault}
+use Rattle.run_commands.specs.LinkedFile.{EndsAs, RunsLinkedBytes}
+use Rattle.endings.specs.Opening.{OpenFault}
+use Rattle.ask_commands.specs.Asking.{IsAnswer, IsBareAnswer, Answers, AsksFiles}
+use Rattle.endings.specs.Putting.{PutsAnswer}
+use Rattle.run_commands.specs.Profiling.{ProfilesLinked, ProfilesBare, ProfilesImage, ProfilesFiles, unwatched}
 use Rattle.jop_cli.specs.Tasks.{task_of}
 use Rattle.jop_cli.specs.Answer.{DoesTask, RunsFile, lent_of, lent_without_input}
 use Rattle.jop_cli.specs.Calls.{Call, NothingFailed}

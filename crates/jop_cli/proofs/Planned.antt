@@ -7,16 +7,16 @@ use Rattle.slot_table.specs.declared.table.TableFault.TheVariants as tables
 use Rattle.command_line.specs.declared.command.Settings.{Settings}
 use Rattle.slot_plans.specs.declared.plan.NotPlanned.{NotPlanned}
 use Rattle.slot_plans.specs.declared.plan.NotPlanned.TheVariants as plans
-use Rattle.commands.specs.declared.outcome.Answer.{Answer}
-use Rattle.commands.specs.declared.outcome.Answer.TheVariants.{Text, Ends}
-use Rattle.commands.specs.declared.outcome.Ending.{Ending}
-use Rattle.commands.specs.declared.outcome.Ending.TheVariants as endings
-use Rattle.commands.specs.World.{World}
-use Rattle.commands.specs.Leaving.{FailsRisen}
-use Rattle.jop_cli.specs.Asking.{PutsAnswer}
-use Rattle.commands.specs.Linking.{LinkFault}
-use Rattle.commands.specs.Executive.{table_ending, EndsUnready}
-use Rattle.jop_cli.specs.Planning.{plan_ending, AnswersPlan, Plans, PlansFiles}
+use Rattle.endings.specs.declared.outcome.Answer.{Answer}
+use Rattle.endings.specs.declared.outcome.Answer.TheVariants.{Text, Ends}
+use Rattle.endings.specs.declared.outcome.Ending.{Ending}
+use Rattle.endings.specs.declared.outcome.Ending.TheVariants as endings
+use Rattle.endings.specs.World.{World}
+use Rattle.endings.specs.Leaving.{FailsRisen}
+use Rattle.endings.specs.Putting.{PutsAnswer}
+use Rattle.endings.specs.Linking.{LinkFault}
+use Rattle.endings.specs.Executive.{table_ending, EndsUnready}
+use Rattle.slot_plans.specs.Planning.{plan_ending, AnswersPlan, Plans, PlansFiles}
 use Rattle.jop_cli.proofs.Refusing.{IsRefusing, refusing_by, fault_refuses}
 use Rattle.jop_cli.proofs.Executing.{risen_but}
 

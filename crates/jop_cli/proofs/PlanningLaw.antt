@@ -24,33 +24,33 @@ use Rattle.run_devices.specs.Lent.{wired}
 use Rattle.command_line.specs.declared.command.Settings.{Settings}
 use Rattle.command_line.specs.declared.command.Command.TheVariants as commands
 use Rattle.analysis_commands.specs.Analysis.{timing_of, bounds_of, named_or_number}
-use Rattle.slot_plans.specs.Plan.{IsCyclicMain}
+use Rattle.analysis_commands.specs.Executive.{IsCyclicMain}
 use Rattle.jopizer.specs.Linked.{Parts}
-use Rattle.commands.specs.declared.outcome.Answer.{Answer}
-use Rattle.commands.specs.declared.outcome.Answer.TheVariants.{Text, Ends}
-use Rattle.commands.specs.declared.outcome.Ending.{Ending}
-use Rattle.commands.specs.declared.outcome.Ending.TheVariants as endings
-use Rattle.commands.specs.Line.{line_of}
-use Rattle.commands.specs.World.{IsQuiet}
-use Rattle.commands.specs.LinkedRun.{linked_setting}
-use Rattle.commands.specs.Linking.{LinkFault}
-use Rattle.jop_cli.specs.Asking.{PutsAnswer}
+use Rattle.endings.specs.declared.outcome.Answer.{Answer}
+use Rattle.endings.specs.declared.outcome.Answer.TheVariants.{Text, Ends}
+use Rattle.endings.specs.declared.outcome.Ending.{Ending}
+use Rattle.endings.specs.declared.outcome.Ending.TheVariants as endings
+use Rattle.endings.specs.Line.{line_of}
+use Rattle.endings.specs.World.{IsQuiet}
+use Rattle.endings.specs.Settings.{linked_setting}
+use Rattle.endings.specs.Linking.{LinkFault}
+use Rattle.endings.specs.Putting.{PutsAnswer}
 use Rattle.jop_cli.specs.Answer.{outcome_of}
-use Rattle.commands.specs.Following.{heres_of, run_stages}
-use Rattle.jop_cli.specs.Profiling.{EndsRun, unwatched}
-use Rattle.commands.specs.Executive.{table_ending, executive_class, with_executive, IsLinkedWith, EndsUnready}
-use Rattle.jop_cli.specs.Planning.{AnswersPlan, PlansLinked, Plans, PlansRead}
-use Rattle.jop_cli.specs.Cycling.{with_slots, EndsCycle, RanCycle, CyclesLinked, CyclesReadied, CyclesOperands, CyclesRead}
+use Rattle.run_commands.specs.Following.{heres_of, run_stages}
+use Rattle.run_commands.specs.Profiling.{EndsRun, unwatched}
+use Rattle.endings.specs.Executive.{table_ending, executive_class, with_executive, IsLinkedWith, EndsUnready}
+use Rattle.slot_plans.specs.Planning.{AnswersPlan, PlansLinked, Plans, PlansRead}
+use Rattle.run_commands.specs.Cycling.{with_slots, EndsCycle, RanCycle, CyclesLinked, CyclesReadied, CyclesOperands, CyclesRead}
 use Rattle.jop_cli.specs.Calls.{Call, NothingFailed}
 use Rattle.jop_cli.specs.promises.Plan.{AreReadied, IsPlanned, puts, says, lacks, PlansAreAnswered}
 use Rattle.jop_cli.specs.promises.Cycle.{IsCycled, lacks, ran, unheld, CyclesAreRuns, SlotsAreKept}
-use Rattle.jop_cli.proofs.Least.{one_least}
+use Rattle.run_commands.proofs.Least.{one_least}
 use Rattle.jop_cli.proofs.Wholly.{IsWholly, wholly, executed, same_files, files_read}
 use Rattle.jop_cli.proofs.Wholly as whole
 use Rattle.jop_cli.proofs.HoldingLaw.{reset_timing}
-use Rattle.commands.proofs.Followed.{rose, unrisen}
+use Rattle.run_commands.proofs.Followed.{rose, unrisen}
 use Rattle.jop_cli.proofs.ProfilingLaw.{quiet_of, ends_run, certified_of}
-use Rattle.jop_cli.proofs.InRuns.{rows_are_seen}
+use Rattle.run_commands.proofs.InRuns.{rows_are_seen}
 
 -- ---- what is linked
 

@@ -20,21 +20,21 @@ use Rattle.run_devices.specs.Lent.{wired}
 use Rattle.command_line.specs.declared.command.Settings.{Settings}
 use Rattle.command_line.specs.declared.command.Command.TheVariants as commands
 use Rattle.command_line.specs.Range.{AreSettings}
-use Rattle.commands.specs.declared.outcome.Answer.{Answer}
-use Rattle.commands.specs.declared.outcome.Answer.TheVariants.{Text, Ends}
-use Rattle.commands.specs.declared.outcome.Ending.{Ending}
-use Rattle.commands.specs.declared.outcome.Ending.TheVariants as endings
-use Rattle.commands.specs.declared.outcome.Outcome.TheVariants as outcomes
-use Rattle.commands.specs.Line.{text_of_word}
-use Rattle.commands.specs.LinkedFile.{IsUnheld}
-use Rattle.commands.specs.LinkedRun.{linked_setting}
-use Rattle.commands.specs.Linking.{files_of}
-use Rattle.commands.specs.Following.{heres_of, run_stages}
-use Rattle.jop_cli.specs.Asking.{PutsAnswer}
+use Rattle.endings.specs.declared.outcome.Answer.{Answer}
+use Rattle.endings.specs.declared.outcome.Answer.TheVariants.{Text, Ends}
+use Rattle.endings.specs.declared.outcome.Ending.{Ending}
+use Rattle.endings.specs.declared.outcome.Ending.TheVariants as endings
+use Rattle.endings.specs.declared.outcome.Outcome.TheVariants as outcomes
+use Rattle.endings.specs.Line.{text_of_word}
+use Rattle.endings.specs.Fitting.{IsUnheld}
+use Rattle.endings.specs.Settings.{linked_setting}
+use Rattle.endings.specs.Linking.{files_of}
+use Rattle.run_commands.specs.Following.{heres_of, run_stages}
+use Rattle.endings.specs.Putting.{PutsAnswer}
 use Rattle.jop_cli.specs.Answer.{outcome_of}
-use Rattle.jop_cli.specs.Profiling.{unwatched}
-use Rattle.jop_cli.specs.Cycling.{cycled_files, RanCycle, CyclesReadied, CyclesRead, CyclesFiles}
-use Rattle.jop_cli.specs.Planning.{Plans, PlansLinked, PlansRead, PlansFiles}
+use Rattle.run_commands.specs.Profiling.{unwatched}
+use Rattle.run_commands.specs.Cycling.{cycled_files, RanCycle, CyclesReadied, CyclesRead, CyclesFiles}
+use Rattle.slot_plans.specs.Planning.{Plans, PlansLinked, PlansRead, PlansFiles}
 use Rattle.jopizer.specs.Linked.{Parts}
 use Rattle.jop_cli.specs.Calls.{Call}
 use Rattle.jop_cli.specs.promises.Cycle.{SlotsAreKept, ShowsCycle, CyclesAreShown, NoSlotIsLate}
@@ -46,7 +46,7 @@ use Rattle.jop_cli.proofs.ShownRuns.{refused_over, wholly_over}
 use Rattle.jop_cli.proofs.ProfilingLaw.{certified_of}
 use Rattle.jop_cli.proofs.Written.{in_range}
 use Rattle.jop_cli.proofs.Wholly.{IsWholly, wholly_written, executed}
-use Rattle.jop_cli.proofs.InRuns.{rows_are_seen}
+use Rattle.run_commands.proofs.InRuns.{rows_are_seen}
 
 -- ---- the plan
 

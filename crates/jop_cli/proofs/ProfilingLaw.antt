@@ -1,5 +1,6 @@
 -- What `profile` answers of what was linked, where nothing fails; and that the bounds in its lines are kept.
-use Rattle.std.proofs.Common.{◌≡◌, ℕ, ◌+◌, ◌<◌, true, false, List, [], ◌∷◌, length, Option, Some, None, Ok, Err, refl, sym, ◌∙◌, ap, subst, arith, ⊎_elim, ◌⊎◌, inl, inr}
+use Rattle.std.proofs.Common.{◌≡◌, ℕ, ◌+◌, ◌<◌, true, false, List, [], ◌∷◌, length, Option, Some}
+use Rattle.std.proofs.Common.{None, Ok, Err, refl, sym, ◌∙◌, ap, subst, arith, ⊎_elim, ◌⊎◌, inl, inr}
 use Rattle.std.proofs.lemmas.Option.{slice_get_within}
 use Rattle.lists.proofs.Lemmas.{some_same}
 use Rattle.class_pool.specs.declared.class.ClassFile.{ClassFile}
@@ -31,29 +32,31 @@ use Rattle.run_devices.specs.Lent.{Lent, wired}
 use Rattle.command_line.specs.declared.command.Settings.{Settings}
 use Rattle.command_line.specs.declared.command.Command.TheVariants as commands
 use Rattle.command_line.specs.Range.{AreSettings}
-use Rattle.analysis_commands.specs.declared.analysis.AnalysisFault.{AnalysisFault}
-use Rattle.analysis_commands.specs.declared.analysis.AnalysisFault.TheVariants as analysis
-use Rattle.analysis_commands.specs.Analysis.{timing_of, bounds_of, IsBoundsFault}
+use Rattle.answer_lines.specs.declared.analysis.AnalysisFault.{AnalysisFault}
+use Rattle.answer_lines.specs.declared.analysis.AnalysisFault.TheVariants as analysis
+use Rattle.analysis_commands.specs.Analysis.{timing_of, bounds_of}
+use Rattle.answer_lines.specs.BoundsFaults.{IsBoundsFault}
 use Rattle.jopizer.specs.Linked.{Parts, image_of}
 use Rattle.jopizer.specs.Laws.{OneLinked, LinkedImagesAreRead}
-use Rattle.commands.specs.declared.outcome.Refusal.TheVariants as refusals
-use Rattle.commands.specs.declared.outcome.Ending.{Ending}
-use Rattle.commands.specs.declared.outcome.Ending.TheVariants as endings
-use Rattle.commands.specs.Phase.{is_linked as is_linked_file}
-use Rattle.commands.specs.World.{World, IsQuiet}
-use Rattle.commands.specs.LinkedRun.{linked_setting}
-use Rattle.commands.specs.LinkedFile.{SaysEnd, IsUnheld}
-use Rattle.commands.specs.Linking.{files_of, OperandsFault}
-use Rattle.commands.specs.Checking.{fault_ending}
-use Rattle.commands.specs.Following.{heres_of, run_stages}
-use Rattle.jop_cli.specs.Profiling.{RanProfile, EndsRun, ProfilesLinked, ProfilesParts, ProfilesImage, ProfilesFiles, input_of, unwatched, bound_told}
+use Rattle.endings.specs.declared.outcome.Refusal.TheVariants as refusals
+use Rattle.endings.specs.declared.outcome.Ending.{Ending}
+use Rattle.endings.specs.declared.outcome.Ending.TheVariants as endings
+use Rattle.endings.specs.Phase.{is_linked as is_linked_file}
+use Rattle.endings.specs.World.{World, IsQuiet}
+use Rattle.endings.specs.Settings.{linked_setting}
+use Rattle.run_commands.specs.LinkedFile.{SaysEnd}
+use Rattle.endings.specs.Fitting.{IsUnheld}
+use Rattle.endings.specs.Linking.{files_of, OperandsFault}
+use Rattle.endings.specs.AnalysisFaults.{fault_ending}
+use Rattle.run_commands.specs.Following.{heres_of, run_stages}
+use Rattle.run_commands.specs.Profiling.{RanProfile, EndsRun, ProfilesLinked, ProfilesParts, ProfilesImage, ProfilesFiles, input_of, unwatched, bound_told}
 use Rattle.jop_cli.specs.Calls.{Call, NothingFailed, LacksMemory}
 use Rattle.jop_cli.specs.promises.Profile.{ProfilesTexts, IsProfiled, ProfilesAreComplete, ProfilesAreKept}
 use Rattle.jop_cli.proofs.Wholly.{IsWholly, wholly, executed, lacks, same_files, files_read}
 use Rattle.jop_cli.proofs.RunningLaw.{not_more, begins_linked, is_read}
 use Rattle.jop_cli.proofs.HoldingLaw.{reset_timing}
-use Rattle.commands.proofs.Followed.{rose, unrisen}
-use Rattle.jop_cli.proofs.InRuns.{rows_are_seen}
+use Rattle.run_commands.proofs.Followed.{rose, unrisen}
+use Rattle.run_commands.proofs.InRuns.{rows_are_seen}
 
 -- ---- what is answered
 

@@ -3,9 +3,9 @@ use Rattle.std.proofs.Common.{◌≡◌, ℕ, true, false, List, sym, subst, ⊎
 use Rattle.class_pool.specs.declared.class.ClassFile.{ClassFile}
 use Rattle.image_file.specs.Bare.{BareContent}
 use Rattle.outside.specs.Files.{FilesTold}
-use Rattle.analysis_commands.specs.declared.analysis.AnalysisFault.{AnalysisFault}
-use Rattle.analysis_commands.specs.declared.analysis.AnalysisFault.TheVariants as analysis
-use Rattle.analysis_commands.specs.declared.check.Held.{Held}
+use Rattle.answer_lines.specs.declared.analysis.AnalysisFault.{AnalysisFault}
+use Rattle.answer_lines.specs.declared.analysis.AnalysisFault.TheVariants as analysis
+use Rattle.answer_lines.specs.declared.analysis.Held.{Held}
 use Rattle.analysis_commands.specs.declared.check.CheckRefusal.{CheckRefusal}
 use Rattle.analysis_commands.specs.declared.check.CheckRefusal.TheVariants as check
 use Rattle.analysis_commands.specs.declared.bound.NotBounded.{NotBounded}
@@ -16,20 +16,22 @@ use Rattle.source_headers.specs.declared.fault.HeaderFault.{HeaderFault}
 use Rattle.source_headers.specs.declared.fault.HeaderFault.TheVariants as headers
 use Rattle.jopizer.specs.Linked.{Parts}
 use Rattle.command_line.specs.declared.command.Settings.{Settings}
-use Rattle.jop_cli.specs.declared.asking.Question.{Question}
-use Rattle.jop_cli.specs.declared.asking.Question.TheVariants as questions
-use Rattle.commands.specs.declared.outcome.Ending.{Ending}
-use Rattle.commands.specs.declared.outcome.Ending.TheVariants as endings
-use Rattle.commands.specs.declared.outcome.Outcome.TheVariants as outcomes
-use Rattle.commands.specs.declared.outcome.Answer.TheVariants.{Ends}
-use Rattle.commands.specs.BareFile.{ImageFault}
-use Rattle.commands.specs.LinkedFile.{BytesFault}
-use Rattle.commands.specs.Linking.{OperandsFault}
-use Rattle.commands.specs.Checking.{fault_ending, refusal_ending, Checks, EndsTooLong}
-use Rattle.commands.specs.Bounding.{cause_ending}
-use Rattle.commands.specs.Needs.{memory_ending}
-use Rattle.commands.specs.Headers.{header_ending}
-use Rattle.jop_cli.specs.Asking.{IsAnswer, IsBareAnswer}
+use Rattle.ask_commands.specs.declared.asking.Question.{Question}
+use Rattle.ask_commands.specs.declared.asking.Question.TheVariants as questions
+use Rattle.endings.specs.declared.outcome.Ending.{Ending}
+use Rattle.endings.specs.declared.outcome.Ending.TheVariants as endings
+use Rattle.endings.specs.declared.outcome.Outcome.TheVariants as outcomes
+use Rattle.endings.specs.declared.outcome.Answer.TheVariants.{Ends}
+use Rattle.endings.specs.Opening.{ImageFault}
+use Rattle.endings.specs.Opening.{BytesFault}
+use Rattle.endings.specs.Linking.{OperandsFault}
+use Rattle.endings.specs.AnalysisFaults.{fault_ending}
+use Rattle.ask_commands.specs.Checking.{refusal_ending, Checks}
+use Rattle.endings.specs.Fitting.{EndsTooLong}
+use Rattle.ask_commands.specs.Bounding.{cause_ending}
+use Rattle.ask_commands.specs.Needs.{memory_ending}
+use Rattle.ask_commands.specs.Headers.{header_ending}
+use Rattle.ask_commands.specs.Asking.{IsAnswer, IsBareAnswer}
 use Rattle.jop_cli.specs.Answer.{outcome_of, outcome_unsaid}
 
 abbrev pub IsRefusing : Ending → Type 0

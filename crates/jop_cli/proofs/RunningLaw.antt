@@ -18,28 +18,31 @@ use Rattle.jopizer.specs.declared.fault.ImageFault.TheVariants as faults
 use Rattle.jopizer.specs.Linked.{Parts, IsLinked, image_of}
 use Rattle.jopizer.specs.Images.{IsWrongIn}
 use Rattle.jopizer.specs.Laws.{OneLinked, LinkedImagesAreRead}
-use Rattle.commands.specs.declared.outcome.Refusal.TheVariants as refusals
-use Rattle.commands.specs.declared.outcome.Ending.{Ending}
-use Rattle.commands.specs.declared.outcome.Ending.TheVariants as endings
-use Rattle.commands.specs.declared.show.Show.{Show}
-use Rattle.commands.specs.declared.show.Show.TheVariants as shows
-use Rattle.commands.specs.Show.{bare_shown, linked_shown}
-use Rattle.commands.specs.Phase.{is_linked}
-use Rattle.commands.specs.World.{IsUntaken}
-use Rattle.commands.specs.Linking.{RefusesFiles}
+use Rattle.endings.specs.declared.outcome.Refusal.TheVariants as refusals
+use Rattle.endings.specs.declared.outcome.Ending.{Ending}
+use Rattle.endings.specs.declared.outcome.Ending.TheVariants as endings
+use Rattle.endings.specs.declared.show.Show.{Show}
+use Rattle.endings.specs.declared.show.Show.TheVariants as shows
+use Rattle.endings.specs.Show.{bare_shown, linked_shown}
+use Rattle.endings.specs.Phase.{is_linked}
+use Rattle.endings.specs.World.{IsUntaken}
+use Rattle.endings.specs.Linking.{RefusesFiles}
 use Rattle.run_devices.specs.Lent.{Lent}
-use Rattle.commands.specs.Run.{HasRisen}
-use Rattle.commands.specs.LinkedSettings.{CodesFit}
-use Rattle.commands.specs.LinkedFile.{BytesFault, EndsAs, RunsLinkedBytes}
-use Rattle.commands.specs.LinkedRun.{linked_setting}
-use Rattle.commands.specs.BareFile as bare
-use Rattle.commands.specs.BareFile.{ImageFault, blocks_of_code, RunsBareBytes}
+use Rattle.run_commands.specs.Run.{HasRisen}
+use Rattle.endings.specs.Fitting.{CodesFit}
+use Rattle.endings.specs.Opening.{BytesFault}
+use Rattle.run_commands.specs.LinkedFile.{EndsAs, RunsLinkedBytes}
+use Rattle.endings.specs.Settings.{linked_setting}
+use Rattle.run_commands.specs.BareFile as bare
+use Rattle.endings.specs.Opening.{ImageFault}
+use Rattle.endings.specs.Fitting.{blocks_of_code}
+use Rattle.run_commands.specs.BareFile.{RunsBareBytes}
 use Rattle.jop_cli.specs.Answer.{RunsFile, lent_of, lent_without_input}
 use Rattle.jop_cli.specs.Calls.{Call, NothingFailed, LacksMemory}
 use Rattle.jop_cli.specs.Courses.{RanLinked, RanBare}
 use Rattle.jop_cli.specs.promises.Run.{HoldsLinked, HoldsBare, RunsAreTheBytecodes, TracesAreTheRuns, BareRunsAreTheBytecodes, BareTracesAreTheRuns}
 use Rattle.jop_cli.specs.promises.Images.{OneBareImage}
-use Rattle.commands.proofs.Followed.{unrisen}
+use Rattle.run_commands.proofs.Followed.{unrisen}
 use Rattle.jop_cli.proofs.Wholly.{IsWholly, wholly, executed, lacks, quiet_of, quiet_without, same_bytes, file_read}
 use Rattle.jop_cli.proofs.Coming.{ended, uncaught, spent}
 

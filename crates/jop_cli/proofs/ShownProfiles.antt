@@ -3,12 +3,12 @@ use Rattle.std.proofs.Common.{ℕ, ◌+◌, List, sym, subst, ◌⊎◌, inl, in
 use Rattle.command_line.specs.declared.command.Settings.{Settings}
 use Rattle.command_line.specs.declared.command.Command.TheVariants as commands
 use Rattle.jopizer.specs.Linked.{Parts}
-use Rattle.commands.specs.declared.outcome.Ending.{Ending}
-use Rattle.commands.specs.Line.{text_of_word}
-use Rattle.commands.specs.Linking.{files_of}
-use Rattle.commands.specs.Checking.{fault_ending}
+use Rattle.endings.specs.declared.outcome.Ending.{Ending}
+use Rattle.endings.specs.Line.{text_of_word}
+use Rattle.endings.specs.Linking.{files_of}
+use Rattle.endings.specs.AnalysisFaults.{fault_ending}
 use Rattle.jop_cli.specs.Calls.{Call}
-use Rattle.jop_cli.specs.Profiling.{EndsUnprofiled, ProfilesParts, ProfilesBareFile, ProfilesImage, ProfilesFiles, unwatched}
+use Rattle.run_commands.specs.Profiling.{EndsUnprofiled, ProfilesParts, ProfilesBareFile, ProfilesImage, ProfilesFiles, unwatched}
 use Rattle.jop_cli.specs.promises.Runs.{IsOver}
 use Rattle.jop_cli.specs.promises.Profile.{ProfileShown, BareProfileShown, ShowsProfile, ProfilesAreShown}
 use Rattle.jop_cli.proofs.Refusing.{IsRefusing, refusing_by, fault_refuses, bytes_refuse, image_refuses, too_long_refuses, operands_refuse}

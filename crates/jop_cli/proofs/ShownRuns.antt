@@ -10,18 +10,18 @@ use Rattle.command_line.specs.declared.command.Settings.{Settings}
 use Rattle.jopizer.specs.Linked.{Parts}
 use Rattle.jopizer.specs.Laws.{OneLinked}
 use Rattle.analysis_commands.specs.Analysis.{timing_of, bounds_of}
-use Rattle.commands.specs.declared.outcome.Refusal.TheVariants as refusals
-use Rattle.commands.specs.declared.outcome.Ending.{Ending}
-use Rattle.commands.specs.declared.outcome.Ending.TheVariants as endings
-use Rattle.commands.specs.declared.show.Show.{Show}
-use Rattle.commands.specs.declared.show.Show.TheVariants as shows
-use Rattle.commands.specs.Show.{bare_shown, linked_shown}
-use Rattle.commands.specs.World.{IsUntaken}
-use Rattle.commands.specs.Line.{text_of_word}
-use Rattle.commands.specs.LinkedFile.{EndsAs, RunsLinkedBytes}
-use Rattle.commands.specs.LinkedRun.{linked_setting}
-use Rattle.commands.specs.BareFile as bare
-use Rattle.commands.specs.BareFile.{RunsBareBytes}
+use Rattle.endings.specs.declared.outcome.Refusal.TheVariants as refusals
+use Rattle.endings.specs.declared.outcome.Ending.{Ending}
+use Rattle.endings.specs.declared.outcome.Ending.TheVariants as endings
+use Rattle.endings.specs.declared.show.Show.{Show}
+use Rattle.endings.specs.declared.show.Show.TheVariants as shows
+use Rattle.endings.specs.Show.{bare_shown, linked_shown}
+use Rattle.endings.specs.World.{IsUntaken}
+use Rattle.endings.specs.Line.{text_of_word}
+use Rattle.run_commands.specs.LinkedFile.{EndsAs, RunsLinkedBytes}
+use Rattle.endings.specs.Settings.{linked_setting}
+use Rattle.run_commands.specs.BareFile as bare
+use Rattle.run_commands.specs.BareFile.{RunsBareBytes}
 use Rattle.jop_cli.specs.declared.task.Task.{Task}
 use Rattle.jop_cli.specs.Answer.{DoesTask, FileFault, RunsFile, outcome_of, outcome_unsaid, lent_of, lent_without_input}
 use Rattle.jop_cli.specs.Calls.{Call}

@@ -2,13 +2,13 @@
 use Rattle.std.proofs.Common.{◌≡◌, ℕ, List, sym, ◌∙◌, subst, inl, inr, ⊎_elim}
 use Rattle.outside.specs.Outside.{Grew}
 use Rattle.command_line.specs.declared.command.Command.TheVariants as commands
-use Rattle.commands.specs.declared.outcome.Answer.TheVariants.{Text}
-use Rattle.commands.specs.declared.outcome.Ending.{Ending}
-use Rattle.commands.specs.declared.outcome.Ending.TheVariants as endings
-use Rattle.commands.specs.declared.outcome.Outcome.TheVariants as outcomes
-use Rattle.commands.specs.Line.{text_of_word}
-use Rattle.commands.specs.Linking.{files_of, LinksRead}
-use Rattle.commands.specs.Assembling.{Assembles, PutsListing}
+use Rattle.endings.specs.declared.outcome.Answer.TheVariants.{Text}
+use Rattle.endings.specs.declared.outcome.Ending.{Ending}
+use Rattle.endings.specs.declared.outcome.Ending.TheVariants as endings
+use Rattle.endings.specs.declared.outcome.Outcome.TheVariants as outcomes
+use Rattle.endings.specs.Line.{text_of_word}
+use Rattle.endings.specs.Linking.{files_of, LinksRead}
+use Rattle.ask_commands.specs.Assembling.{Assembles, PutsListing}
 use Rattle.jop_cli.specs.Tasks.{heading}
 use Rattle.jop_cli.specs.Answer.{outcome_of}
 use Rattle.jop_cli.specs.Calls.{Call}

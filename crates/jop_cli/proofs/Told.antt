@@ -6,11 +6,11 @@ use Rattle.std.proofs.lemmas.List.{ext_get_or, length-take-le, get_or-take, take
 use Rattle.std.proofs.lemmas.List.Sums.{sum_by_more_le}
 use Rattle.outside.specs.Outside.{Rose}
 use Rattle.outside.specs.Files.{AreFiles, IsTooBigAt}
-use Rattle.commands.specs.declared.outcome.Refusal.TheVariants as refusals
-use Rattle.commands.specs.declared.outcome.Ending.{Ending}
-use Rattle.commands.specs.declared.outcome.Ending.TheVariants as endings
-use Rattle.commands.specs.World.{IsQuiet, Reads, IsTooBig}
-use Rattle.commands.specs.Linking.{files_of, OperandsFault}
+use Rattle.endings.specs.declared.outcome.Refusal.TheVariants as refusals
+use Rattle.endings.specs.declared.outcome.Ending.{Ending}
+use Rattle.endings.specs.declared.outcome.Ending.TheVariants as endings
+use Rattle.endings.specs.World.{IsQuiet, Reads, IsTooBig}
+use Rattle.endings.specs.Linking.{files_of, OperandsFault}
 use Rattle.jop_cli.specs.Answer.{FileFault}
 use Rattle.jop_cli.specs.Calls.{Call, NothingFailed, LacksMemory, IsTold}
 use Rattle.jop_cli.specs.promises.Answers.{AnswersEnding}

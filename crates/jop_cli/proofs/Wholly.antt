@@ -9,13 +9,13 @@ use Rattle.outside.specs.Files.{AreFiles, IsTooBigAt}
 use Rattle.run_devices.specs.Lent.{Lent}
 use Rattle.command_line.specs.declared.command.Command.{Command}
 use Rattle.command_line.specs.Command.{command_of}
-use Rattle.commands.specs.declared.outcome.Refusal.TheVariants as refusals
-use Rattle.commands.specs.declared.outcome.Ending.{Ending}
-use Rattle.commands.specs.declared.outcome.Ending.TheVariants as endings
-use Rattle.commands.specs.declared.outcome.Outcome.TheVariants as outcomes
-use Rattle.commands.specs.Line.{line_of}
-use Rattle.commands.specs.World.{World, IsQuiet, IsUntaken, Reads}
-use Rattle.commands.specs.Linking.{files_of, OperandsFault}
+use Rattle.endings.specs.declared.outcome.Refusal.TheVariants as refusals
+use Rattle.endings.specs.declared.outcome.Ending.{Ending}
+use Rattle.endings.specs.declared.outcome.Ending.TheVariants as endings
+use Rattle.endings.specs.declared.outcome.Outcome.TheVariants as outcomes
+use Rattle.endings.specs.Line.{line_of}
+use Rattle.endings.specs.World.{World, IsQuiet, IsUntaken, Reads}
+use Rattle.endings.specs.Linking.{files_of, OperandsFault}
 use Rattle.jop_cli.specs.Answer.{Does, FileFault, outcome_of, lent_of, lent_without_input}
 use Rattle.jop_cli.specs.Calls.{Call, NothingFailed, LacksMemory, IsTold, OperandsAreTold}
 use Rattle.jop_cli.proofs.Refusing.{unsaid_written, unsaid_holds}

@@ -2,12 +2,12 @@
 use Rattle.std.proofs.Common.{◌≡◌, ℕ, refl, sym, ◌∙◌, ap, subst, ◌⊎◌, inl, inr, ⊎_elim}
 use Rattle.outside.specs.Outside.{Grew}
 use Rattle.command_line.specs.declared.command.Command.TheVariants.{Work}
-use Rattle.commands.specs.declared.outcome.Ending.{Ending}
-use Rattle.commands.specs.declared.outcome.Ending.TheVariants as endings
-use Rattle.commands.specs.declared.outcome.Outcome.TheVariants as outcomes
-use Rattle.commands.specs.Line.{line_of}
-use Rattle.commands.specs.World.{IsQuiet}
-use Rattle.commands.specs.Working.{PutsWholeLine, NotWorked, OnlyOut}
+use Rattle.endings.specs.declared.outcome.Ending.{Ending}
+use Rattle.endings.specs.declared.outcome.Ending.TheVariants as endings
+use Rattle.endings.specs.declared.outcome.Outcome.TheVariants as outcomes
+use Rattle.endings.specs.Line.{line_of}
+use Rattle.endings.specs.World.{IsQuiet}
+use Rattle.run_commands.specs.Working.{PutsWholeLine, NotWorked, OnlyOut}
 use Rattle.jop_cli.specs.Answer.{outcome_of}
 use Rattle.jop_cli.specs.Calls.{Call}
 use Rattle.jop_cli.specs.promises.Work.{IsWorkedBy, Hinders, puts, says, lacks, WorkingIsComplete, WorkLinesAreTrue}

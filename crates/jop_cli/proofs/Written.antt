@@ -10,14 +10,15 @@ use Rattle.command_line.specs.declared.command.Command.{Command}
 use Rattle.command_line.specs.Command.{texts, command_of}
 use Rattle.command_line.specs.Range.{HasNumbersInRange}
 use Rattle.command_line.proofs.Ranges.{ranges}
-use Rattle.commands.specs.declared.outcome.Answer.{Answer}
-use Rattle.commands.specs.declared.outcome.Answer.TheVariants.{Text, Ends}
-use Rattle.commands.specs.declared.outcome.Ending.{Ending}
-use Rattle.commands.specs.declared.outcome.Outcome.TheVariants as outcomes
-use Rattle.commands.specs.Line.{text_of_word}
-use Rattle.commands.specs.Linking.{files_of}
-use Rattle.jop_cli.specs.declared.asking.Asked.{Asked}
-use Rattle.jop_cli.specs.Asking.{AnswersLinked, AnswersBare, Answers, PutsAnswer, AsksRead, AsksFiles}
+use Rattle.endings.specs.declared.outcome.Answer.{Answer}
+use Rattle.endings.specs.declared.outcome.Answer.TheVariants.{Text, Ends}
+use Rattle.endings.specs.declared.outcome.Ending.{Ending}
+use Rattle.endings.specs.declared.outcome.Outcome.TheVariants as outcomes
+use Rattle.endings.specs.Line.{text_of_word}
+use Rattle.endings.specs.Linking.{files_of}
+use Rattle.ask_commands.specs.declared.asking.Asked.{Asked}
+use Rattle.ask_commands.specs.Asking.{AnswersLinked, AnswersBare, Answers, AsksRead, AsksFiles}
+use Rattle.endings.specs.Putting.{PutsAnswer}
 use Rattle.jop_cli.specs.Answer.{outcome_of}
 use Rattle.jop_cli.specs.Calls.{Call}
 use Rattle.jop_cli.specs.promises.Images.{IsOpened}

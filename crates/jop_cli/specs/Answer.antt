@@ -11,34 +11,34 @@ use Rattle.command_line.specs.Command.{command_of}
 use Rattle.answer_lines.specs.Said.{SaidLess}
 use Rattle.answer_lines.specs.declared.unanswered.Cause.{Cause}
 use Rattle.answer_lines.specs.declared.unanswered.Cause.TheVariants as causes
-use Rattle.commands.specs.declared.outcome.Refusal.{Refusal}
-use Rattle.commands.specs.declared.outcome.Refusal.TheVariants.{Usage, TooBig, MethodTooLong, Link}
-use Rattle.commands.specs.declared.outcome.Refusal.TheVariants.{Check as NotChecked, Bound as Forbidden, Memory as NotMet, NoLoop, Plan as NotPlanned}
-use Rattle.commands.specs.declared.outcome.Ending.{Ending}
-use Rattle.commands.specs.declared.outcome.Ending.TheVariants.{Ended, Written, Linked, Holds, Uncaught}
-use Rattle.commands.specs.declared.outcome.Ending.TheVariants.{Refused, TooLong, NotLinked, NotHeld, NotAnswered, Spent}
-use Rattle.commands.specs.declared.outcome.Ending.TheVariants.{CycleEnded, CycleUncaught, CycleSpent}
-use Rattle.commands.specs.declared.outcome.Ending.TheVariants.{ReadFault, InputFault, WriteFault, NoMemory}
-use Rattle.commands.specs.declared.outcome.Outcome.{Outcome}
-use Rattle.commands.specs.declared.outcome.Outcome.TheVariants as outcomes
-use Rattle.commands.specs.declared.show.Show.{Show}
-use Rattle.commands.specs.declared.show.Show.TheVariants as shows
-use Rattle.commands.specs.Line.{text_of_word, line_of, is_fault}
-use Rattle.commands.specs.Phase.{is_linked}
-use Rattle.commands.specs.BareFile.{RunsBareBytes}
+use Rattle.endings.specs.declared.outcome.Refusal.{Refusal}
+use Rattle.endings.specs.declared.outcome.Refusal.TheVariants.{Usage, TooBig, MethodTooLong, Link}
+use Rattle.endings.specs.declared.outcome.Refusal.TheVariants.{Check as NotChecked, Bound as Forbidden, Memory as NotMet, NoLoop, Plan as NotPlanned}
+use Rattle.endings.specs.declared.outcome.Ending.{Ending}
+use Rattle.endings.specs.declared.outcome.Ending.TheVariants.{Ended, Written, Linked, Holds, Uncaught}
+use Rattle.endings.specs.declared.outcome.Ending.TheVariants.{Refused, TooLong, NotLinked, NotHeld, NotAnswered, Spent}
+use Rattle.endings.specs.declared.outcome.Ending.TheVariants.{CycleEnded, CycleUncaught, CycleSpent}
+use Rattle.endings.specs.declared.outcome.Ending.TheVariants.{ReadFault, InputFault, WriteFault, NoMemory}
+use Rattle.endings.specs.declared.outcome.Outcome.{Outcome}
+use Rattle.endings.specs.declared.outcome.Outcome.TheVariants as outcomes
+use Rattle.endings.specs.declared.show.Show.{Show}
+use Rattle.endings.specs.declared.show.Show.TheVariants as shows
+use Rattle.endings.specs.Line.{text_of_word, line_of, is_fault}
+use Rattle.endings.specs.Phase.{is_linked}
+use Rattle.run_commands.specs.BareFile.{RunsBareBytes}
 use Rattle.run_devices.specs.Lent.{Lent, lent}
-use Rattle.commands.specs.LinkedFile.{RunsLinkedBytes}
-use Rattle.commands.specs.World.{World, IsQuiet, IsUntaken, FilesStayBut, IsUnchanged, Reads, IsTooBig}
-use Rattle.commands.specs.Assembling.{Assembles}
-use Rattle.commands.specs.Linking.{LinksFiles}
-use Rattle.jop_cli.specs.Asking.{AsksFiles}
-use Rattle.jop_cli.specs.Profiling.{ProfilesFiles}
-use Rattle.jop_cli.specs.Planning.{PlansFiles}
-use Rattle.jop_cli.specs.Cycling.{CyclesFiles}
+use Rattle.run_commands.specs.LinkedFile.{RunsLinkedBytes}
+use Rattle.endings.specs.World.{World, IsQuiet, IsUntaken, FilesStayBut, IsUnchanged, Reads, IsTooBig}
+use Rattle.ask_commands.specs.Assembling.{Assembles}
+use Rattle.endings.specs.Linking.{LinksFiles}
+use Rattle.ask_commands.specs.Asking.{AsksFiles}
+use Rattle.run_commands.specs.Profiling.{ProfilesFiles}
+use Rattle.slot_plans.specs.Planning.{PlansFiles}
+use Rattle.run_commands.specs.Cycling.{CyclesFiles}
 use Rattle.jop_cli.specs.declared.task.Task.{Task}
 use Rattle.jop_cli.specs.declared.task.Task.TheVariants as tasks
 use Rattle.jop_cli.specs.Tasks.{task_of}
-use Rattle.commands.specs.Working.{Works}
+use Rattle.run_commands.specs.Working.{Works}
 
 -- what a run is lent
 abbrev pub lent_of : World → Lent

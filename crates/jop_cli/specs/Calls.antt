@@ -3,9 +3,9 @@ use Rattle.std.specs.Prelude.{◌≡◌, ℕ, ◌+◌, ◌<◌, ◌≤◌, List,
 use Rattle.std.specs.declared.option.Option.{Option}
 use Rattle.outside.specs.Outside.{Grew, Rose}
 use Rattle.outside.specs.Files.{most_bytes}
-use Rattle.commands.specs.declared.outcome.Outcome.{Outcome}
-use Rattle.commands.specs.declared.outcome.Outcome.TheVariants.{NoMemory}
-use Rattle.commands.specs.World.{World, IsQuiet}
+use Rattle.endings.specs.declared.outcome.Outcome.{Outcome}
+use Rattle.endings.specs.declared.outcome.Outcome.TheVariants.{NoMemory}
+use Rattle.endings.specs.World.{World, IsQuiet}
 use Rattle.jop_cli.specs.Answer.{Answered}
 
 -- A call: its words, what the outside and err told before and after, their counts of faults, and the outcome, which is what the clause of `jop` says.

@@ -21,17 +21,17 @@ use Rattle.run_devices.specs.Lent.{Lent, wired}
 use Rattle.answer_lines.specs.declared.line.Counts.{Counts}
 use Rattle.command_line.specs.declared.command.Settings.{Settings}
 use Rattle.jopizer.specs.Linked.{Parts}
-use Rattle.commands.specs.declared.outcome.Ending.{Ending}
-use Rattle.commands.specs.declared.outcome.Ending.TheVariants as endings
-use Rattle.commands.specs.declared.outcome.Outcome.TheVariants as outcomes
-use Rattle.commands.specs.declared.show.Show.{Show}
-use Rattle.commands.specs.Line.{line_of}
-use Rattle.commands.specs.Phase.{HasSettings}
-use Rattle.commands.specs.Run.{AreCounts}
-use Rattle.commands.specs.Show.{Shown, Output, Trace, bare_shown, linked_shown}
-use Rattle.commands.specs.LinkedRun.{linked_setting}
-use Rattle.commands.specs.LinkedFile.{NamesClass}
-use Rattle.commands.specs.World.{IsUntaken}
+use Rattle.endings.specs.declared.outcome.Ending.{Ending}
+use Rattle.endings.specs.declared.outcome.Ending.TheVariants as endings
+use Rattle.endings.specs.declared.outcome.Outcome.TheVariants as outcomes
+use Rattle.endings.specs.declared.show.Show.{Show}
+use Rattle.endings.specs.Line.{line_of}
+use Rattle.endings.specs.Phase.{HasSettings}
+use Rattle.run_commands.specs.Run.{AreCounts}
+use Rattle.endings.specs.Show.{Shown, Output, Trace, bare_shown, linked_shown}
+use Rattle.endings.specs.Settings.{linked_setting}
+use Rattle.run_commands.specs.LinkedFile.{NamesClass}
+use Rattle.endings.specs.World.{IsUntaken}
 use Rattle.jop_cli.specs.Answer.{lent_of, lent_without_input}
 use Rattle.jop_cli.specs.Calls.{Call}
 

@@ -1,8 +1,3 @@
-pub mod Asking
-pub mod Preparing
-pub mod Profiling
-pub mod Planning
-pub mod Cycling
 pub mod Tasks
 pub mod Answer
 pub mod Process

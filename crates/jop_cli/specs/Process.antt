@@ -2,10 +2,10 @@
 use Rattle.std.specs.Prelude.{◌≡◌, ◌⊎◌, ℕ, ◌<◌, ◌≤◌, ◌^◌, List, length, None}
 use Rattle.std.specs.declared.option.Option.{Option}
 use Rattle.outside.specs.Host.{StreamState, told_at}
-use Rattle.commands.specs.declared.outcome.Outcome.{Outcome}
-use Rattle.commands.specs.World.{World}
+use Rattle.endings.specs.declared.outcome.Outcome.{Outcome}
+use Rattle.endings.specs.World.{World}
 use Rattle.jop_cli.specs.Answer.{Answered}
-use Rattle.commands.specs.Status.{status_of}
+use Rattle.endings.specs.Status.{status_of}
 
 -- The program was called with these words, and this is the status of its outcome.
 pub record IsStatus (words : List (List ℕ)) (old new : World) (err err' : Option (List ℕ)) (faults faults' : ℕ) (status : ℕ) : Type 0 where

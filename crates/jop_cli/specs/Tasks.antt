@@ -4,12 +4,12 @@ use Rattle.command_line.specs.declared.command.Settings.{Settings}
 use Rattle.command_line.specs.declared.command.Command.{Command}
 use Rattle.command_line.specs.declared.command.Command.TheVariants as commands
 use Rattle.command_line.specs.Range.{AreSettings}
-use Rattle.jop_cli.specs.declared.asking.Question.TheVariants.{Check, Bound, Bounds, Shapes, Report, Loops, Headers, Memory}
-use Rattle.jop_cli.specs.declared.asking.Asked.{Asked}
-use Rattle.commands.specs.declared.show.Show.TheVariants as shows
+use Rattle.ask_commands.specs.declared.asking.Question.TheVariants.{Check, Bound, Bounds, Shapes, Report, Loops, Headers, Memory}
+use Rattle.ask_commands.specs.declared.asking.Asked.{Asked}
+use Rattle.endings.specs.declared.show.Show.TheVariants as shows
 use Rattle.jop_cli.specs.declared.task.Task.{Task}
 use Rattle.jop_cli.specs.declared.task.Task.TheVariants.{Run, Profile, Plan, Cycle, Assemble, Link, Ask, Work}
-use Rattle.jop_cli.specs.Asking.{HasRightSettings}
+use Rattle.ask_commands.specs.Asking.{HasRightSettings}
 
 -- ---- the questions
 

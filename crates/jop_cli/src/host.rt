@@ -1,10 +1,10 @@
 //! The program over the files of a system, a reader and two sinks; and the words of this process.
 ghost use Rattle.std.specs.Prelude.{◌≡◌, ◌<◌, ◌^◌, ◌⊎◌, length, map, string_bytes, IfOk, IfErr};
 ghost use Rattle.command_line.specs.Command.{texts};
-ghost use Rattle.commands.specs.World.{world};
+ghost use Rattle.endings.specs.World.{world};
 ghost use Rattle.jop_cli.specs.Process.{IsStatus, IsCalledStatus, IsWordsStatus, sinks};
 
-use crate::jop;
+use crate::top::jop;
 use jop_core::{NoWatch, Watch};
 use outside::{FileSystem, Files, HostFiles, HostSource, Sink, Source, SteadyRead};
 use std::alloc::{AllocError, Global};

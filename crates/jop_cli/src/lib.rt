@@ -1,12 +1,8 @@
 //! The program: what it does with the words of its command line.
 #![tactic(auto)]
 
-mod asking;
-mod cycling;
 pub mod host;
 pub mod laws;
-mod planning;
-mod profiling;
 mod task;
 mod top;
 

@@ -3,9 +3,9 @@ ghost use Rattle.std.specs.Prelude.{◌≡◌, ℕ};
 ghost use Rattle.command_line.specs.Range.{HasNumbersInRange, AreThere, OperandsFollow};
 ghost use Rattle.jop_cli.specs.Tasks.{task_of, IsAmong};
 
-use crate::asking::{Asked, Question};
+use ask_commands::asking::{Asked, Question};
 use command_line::{Command, Settings};
-use commands::show::Show;
+use endings::show::Show;
 
 /// What a command does.
 #[derive(Clone, Copy)]

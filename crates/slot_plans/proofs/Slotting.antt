@@ -1,5 +1,6 @@
 -- What is answered of slots by the table of a program, one behind another, and that it holds of the program.
-use Rattle.std.proofs.Common.{◌≡◌, ℕ, zero, suc, ◌+◌, ◌<◌, ◌≤◌, List, [], ◌∷◌, ◌++◌, length, take, get_or, append-nil, append_assoc, length-append, Option, Some, refl, sym, ◌∙◌, ap, subst, inl, inr, arith}
+use Rattle.std.proofs.Common.{◌≡◌, ℕ, zero, suc, ◌+◌, ◌<◌, ◌≤◌, List, [], ◌∷◌, ◌++◌, length, take}
+use Rattle.std.proofs.Common.{get_or, append-nil, append_assoc, length-append, Option, Some, refl, sym, ◌∙◌, ap, subst, inl, inr, arith}
 use Rattle.std.specs.Prelude.{◌⊎◌, IfSome, slice_get, Result, Ok, Err, IfOk, IfErr, Vec}
 use Rattle.std.specs.declared.alloc.Global.{Global}
 use Rattle.std.proofs.Math.Path.{fun_ext}
@@ -27,7 +28,9 @@ use Rattle.analysis_commands.specs.Analysis.{timing_of, bounds_of, named_or_numb
 use Rattle.analysis_commands.specs.Answers.{table_name}
 use Rattle.analysis_commands.specs.BoundAnswers.{IsCertificateOf, IsCauseOf}
 use Rattle.slot_plans.specs.Plan.{KeepsLength, plan_line, plan_lines_from, IsPlanOf, IsPlan, IsNoPlanOf, IsNotPlanned}
-use Rattle.slot_plans.specs.PlanAnswers.{IsSlotMethodIn, HasNoMethodIn, IsBoundOfMethodIn, IsSlotCause, IsRefusedMethod, IsSlotBoundIn, KeepsLengthIn, IsSlotRefusedBy, HasSlotLine, IsPlanIn, IsNotPlannedBy}
+use Rattle.analysis_commands.specs.ExecutiveAnswers.{IsSlotMethodIn, HasNoMethodIn}
+use Rattle.slot_plans.specs.PlanAnswers.{IsBoundOfMethodIn, IsSlotCause, IsRefusedMethod, IsSlotBoundIn}
+use Rattle.slot_plans.specs.PlanAnswers.{KeepsLengthIn, IsSlotRefusedBy, HasSlotLine, IsPlanIn, IsNotPlannedBy}
 use Rattle.analysis_commands.proofs.Lifting.{named, moved}
 
 -- ---- one slot

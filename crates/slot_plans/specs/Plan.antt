@@ -1,19 +1,15 @@
 -- What `plan` finds of a program that was linked with a cyclic executive, of the bounds of its loops, and of the executive's slots: that the bound of each
 -- slot's method keeps the slot's length, or which slot is the first of which this can't be said.
-use Rattle.std.specs.Prelude.{◌≡◌, ◌⊎◌, ◌↔◌, ℕ, suc, ◌<◌, ◌≤◌, List, [], ◌∷◌, ◌++◌, length, Option, Some, IsSome, IsSomeAnd, IfSome, slice_get, codes, decimal}
+use Rattle.std.specs.Prelude.{◌≡◌, ◌⊎◌, ℕ, suc, ◌<◌, ◌≤◌, List, [], ◌∷◌, ◌++◌, length, Option, Some, IfSome, slice_get, codes, decimal}
 use Rattle.class_pool.specs.declared.class.ClassFile.{ClassFile}
 use Rattle.program_tables.specs.Resolved.{resolved}
-use Rattle.section_check.specs.Least.{IsLeast}
 use Rattle.slot_table.specs.declared.slot.Slot.{Slot}
 use Rattle.slot_table.specs.Slots.{slot_word}
-use Rattle.slot_table.specs.Executive.{call_place}
 use Rattle.command_line.specs.declared.command.Settings.{Settings}
 use Rattle.bound_texts.specs.Loops.Bounds.{LoopBound}
 use Rattle.bound_texts.specs.Loops.Grammar.{IsRead}
-use Rattle.bytecode_model.specs.Program.{Program, body_of}
+use Rattle.bytecode_model.specs.Program.{Program}
 use Rattle.method_flow.specs.declared.timing.Timing.{Timing}
-use Rattle.method_flow.specs.Calls.{IsTarget}
-use Rattle.method_flow.specs.Flow.{IsInvokeStart}
 use Rattle.method_flow.specs.Keeping.{BoundOf}
 use Rattle.bound_rules.specs.declared.faults.BoundRefusal.{BoundRefusal}
 use Rattle.bound_rules.specs.Bounding.{HasNoCause, IsCause}
@@ -27,31 +23,7 @@ use Rattle.slot_plans.specs.declared.plan.NotPlanned.{NotPlanned}
 use Rattle.slot_plans.specs.declared.plan.NotPlanned.TheVariants.{NoAnalysis, Refused, NoMemory}
 use Rattle.analysis_commands.specs.Analysis.{EachFits, timing_of, bounds_of, named_or_number, IsAnalysisFault}
 use Rattle.analysis_commands.specs.Bounding.{cause_of, subject_of}
-
--- ---- the executive, where these are the names of the methods
-
-abbrev pub executive_name : List ℕ
-executive_name = codes "Cyclic.main([Ljava/lang/String;)V"
-
--- a method with code that has its name
-pub record IsCyclicMain (P : Program) (name : ℕ → List ℕ) (m : ℕ) : Type 0 where
-  pub coded : IsSome (body_of P m)
-  pub is_named : name m ≡ executive_name
-
--- the executive is the first of them
-abbrev pub IsExecutive : Program → (name : ℕ → List ℕ) → (method : ℕ) → Type 0
-IsExecutive P name e = IsLeast (IsCyclicMain P name) (Some e)
-
--- an invoke of the caller's code begins at the place, and it runs this method and no other
-pub record CallsOnly (P : Program) (caller place method : ℕ) : Type 0 where
-  pub begins : IsSomeAnd (body_of P caller) (λ b. IsInvokeStart b.code place)
-  pub runs : (m : ℕ) → IsTarget P caller place m ↔ (m ≡ method)
-
--- the method of a slot: the executive calls it where the call of the slot stands
-pub record IsSlotMethod (P : Program) (name : ℕ → List ℕ) (slot method : ℕ) : Type 0 where
-  pub executive : ℕ
-  pub is_executive : IsExecutive P name executive
-  pub calls : CallsOnly P executive (call_place slot) method
+use Rattle.analysis_commands.specs.Executive.{IsSlotMethod}
 
 -- ---- the bounds
 

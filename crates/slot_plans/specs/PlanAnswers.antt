@@ -1,12 +1,8 @@
 -- What is answered of slots by the table of a program.
-use Rattle.std.specs.Prelude.{◌≡◌, ◌++◌, ℕ, List, [], ◌∷◌, Option, Some, None, slice_get}
-use Rattle.class_pool.specs.declared.class.ClassFile.{ClassFile}
-use Rattle.program_tables.specs.Resolved.{resolved}
-use Rattle.name_laws.specs.Written.{written_name}
-use Rattle.section_check.specs.Least.{IsLeast}
+use Rattle.std.specs.Prelude.{◌≡◌, ◌++◌, ℕ, List, Option, Some}
 use Rattle.slot_table.specs.declared.slot.Slot.{Slot}
 use Rattle.bytecode_model.specs.Program.{Program}
-use Rattle.method_flow.specs.Flow.{Coded, Flow, IsFlowOf}
+use Rattle.method_flow.specs.Flow.{IsFlowOf}
 use Rattle.method_flow.specs.declared.timing.Timing.{Timing}
 use Rattle.method_flow.specs.Keeping.{BoundOf}
 use Rattle.node_costs.specs.Costs.{bounds_of}
@@ -14,7 +10,6 @@ use Rattle.bound_rules.specs.Bounding.{HasNoCause}
 use Rattle.bound_rules.specs.Numbers.{IsPrinted}
 use Rattle.bound_finder.specs.Certified.{IsCertified}
 use Rattle.bound_rules.specs.declared.faults.BoundRefusal.{BoundRefusal}
-use Rattle.bound_causes.specs.Naming.{IsNamedBy}
 use Rattle.answer_lines.specs.declared.plan.PlanCause.{PlanCause}
 use Rattle.answer_lines.specs.declared.plan.PlanCause.TheVariants as plans
 use Rattle.analysis_commands.specs.declared.analysis.Analysis.{Analysis}
@@ -23,40 +18,7 @@ use Rattle.slot_plans.specs.declared.plan.NotPlanned.TheVariants.{NoAnalysis, Re
 use Rattle.analysis_commands.specs.Answers.{table_name}
 use Rattle.analysis_commands.specs.Bounding.{cause_of, subject_of}
 use Rattle.analysis_commands.specs.BoundAnswers.{IsCauseOf}
-use Rattle.slot_plans.specs.Plan.{executive_name, CallsOnly, IsSlotMethod, IsSlotBound, KeepsLength, plan_line, IsPlanOf, IsSlotRefusal, IsNoPlanOf}
-
--- ---- the executive
-
--- it is the table of the program, with the names of its methods
-pub record IsFlowWithNames (cs : List ClassFile) (f : Flow) : Type 0 where
-  pub flow : IsFlowOf (resolved cs) f
-  pub names : (m : ℕ) (k : Coded) → slice_get f.methods m ≡ Some k → k.name ≡ written_name cs m
-
--- the first method of the table that has the executive's name
-abbrev pub IsExecutiveIn : Flow → (executive : Option ℕ) → Type 0
-IsExecutiveIn f executive = IsLeast (IsNamedBy f executive_name) executive
-
--- the method is the slot's in each program of the table
-abbrev pub IsSlotMethodIn : Flow → (slot method : ℕ) → Type 0
-IsSlotMethodIn f i m = (P : Program) → IsFlowOf P f → IsSlotMethod P (table_name f) i m
-
--- in none of them is a method the slot's
-abbrev pub HasNoMethodIn : Flow → (slot : ℕ) → Type 0
-HasNoMethodIn f i = (P : Program) → IsFlowOf P f → (m : ℕ) → ¬ IsSlotMethod P (table_name f) i m
-
--- the one number of a list
-abbrev pub only_of : List ℕ → Option ℕ
-only_of [] = None
-only_of (x ∷ []) = Some x
-only_of (x ∷ y ∷ xs) = None
-
--- the executive's code calls this method and no other at the place, in each program of the table
-abbrev pub CallsOnlyIn : Flow → (caller place method : ℕ) → Type 0
-CallsOnlyIn f e p m = (P : Program) → IsFlowOf P f → CallsOnly P e p m
-
--- in none of them one method
-abbrev pub CallsNoneIn : Flow → (caller place : ℕ) → Type 0
-CallsNoneIn f e p = (P : Program) → IsFlowOf P f → (m : ℕ) → ¬ CallsOnly P e p m
+use Rattle.slot_plans.specs.Plan.{IsSlotBound, KeepsLength, plan_line, IsPlanOf, IsSlotRefusal, IsNoPlanOf}
 
 -- ---- the slots, in each program of the table
 

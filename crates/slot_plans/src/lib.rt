@@ -1,8 +1,8 @@
-//! The executive of a table of slots in a program that was linked with it, and whether the bounds of its slots' methods keep their lengths.
+//! Whether the bounds of the methods that the slots of an executive call keep the slots' lengths, and how `plan` ends.
 #![tactic(auto)]
 
-mod executive;
 mod plan;
+mod planning;
 
-pub use executive::executive_method;
 pub use plan::{NotPlanned, plan_lines};
+pub use planning::plan_files;

@@ -6,14 +6,15 @@ ghost use Rattle.slot_table.specs.declared.slot.Slot.{Slot};
 ghost use Rattle.analysis_commands.specs.Answers.{table_name};
 ghost use Rattle.analysis_commands.specs.BoundAnswers.{IsOfProgram};
 ghost use Rattle.slot_plans.specs.Plan.{plan_line, IsPlan, IsNotPlanned};
-ghost use Rattle.slot_plans.specs.PlanAnswers.{IsExecutiveIn, IsBoundOfMethodIn, IsSlotCause, IsRefusedMethod, IsSlotBoundIn, KeepsLengthIn};
+ghost use Rattle.analysis_commands.specs.ExecutiveAnswers.{IsExecutiveIn};
+ghost use Rattle.slot_plans.specs.PlanAnswers.{IsBoundOfMethodIn, IsSlotCause, IsRefusedMethod, IsSlotBoundIn, KeepsLengthIn};
 ghost use Rattle.slot_plans.specs.PlanAnswers.{IsSlotRefusedBy, HasSlotLine, IsPlanIn, IsNotPlannedBy};
 
-use crate::executive::{executive_method, slot_method};
 use analysis_commands::{
-    Analysis, AnalysisFault, analysis_of, cause_of, certificate_by_number, subject_of,
+    Analysis, analysis_of, cause_of, certificate_by_number, executive_method, slot_method,
+    subject_of,
 };
-use answer_lines::{BoundCause, PlanCause};
+use answer_lines::{AnalysisFault, BoundCause, PlanCause};
 use ascii_text::put_u64;
 use base::NoMemory;
 use bound_rules::BoundRefusal;

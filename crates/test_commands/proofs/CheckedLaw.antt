@@ -9,12 +9,12 @@ use Rattle.ascii_text.specs.Line.{lines_of as text_lines}
 use Rattle.certificates.specs.Texts.{AreLinesOf}
 use Rattle.command_line.specs.declared.command.Command.TheVariants.{Check, Run}
 use Rattle.command_line.specs.Command.{command_of}
-use Rattle.commands.specs.declared.outcome.Outcome.{Outcome}
-use Rattle.commands.specs.declared.outcome.Outcome.TheVariants.{Holds}
-use Rattle.commands.specs.declared.show.Show.TheVariants.{Output}
-use Rattle.commands.specs.Working.{usual_settings}
-use Rattle.commands.specs.Line.{text_of_word}
-use Rattle.commands.specs.Phase.{is_linked}
+use Rattle.endings.specs.declared.outcome.Outcome.{Outcome}
+use Rattle.endings.specs.declared.outcome.Outcome.TheVariants.{Holds}
+use Rattle.endings.specs.declared.show.Show.TheVariants.{Output}
+use Rattle.endings.specs.Settings.{usual_settings}
+use Rattle.endings.specs.Line.{text_of_word}
+use Rattle.endings.specs.Phase.{is_linked}
 use Rattle.jop_cli.specs.promises.Check.{CheckedBoundsAreKept, ShowsHeld}
 use Rattle.jop_cli.specs.promises.Activations.{CheckedRunsAreKept, CheckedRun}
 use Rattle.jop_cli.specs.promises.Runs.{IsOver, RunsAreShown, ShowsRun, RanLinkedFile, RanBareFile}

@@ -5,10 +5,10 @@ use Rattle.image_file.specs.Linked as file
 use Rattle.ascii_text.specs.Line.{lines_of as text_lines}
 use Rattle.certificates.specs.Certificate.{Certificate}
 use Rattle.certificates.specs.Texts.{AreLinesOf}
-use Rattle.commands.specs.declared.outcome.Outcome.{Outcome}
-use Rattle.commands.specs.declared.outcome.Outcome.TheVariants.{Holds}
-use Rattle.commands.specs.declared.show.Show.TheVariants.{Output}
-use Rattle.commands.specs.Working.{usual_settings}
+use Rattle.endings.specs.declared.outcome.Outcome.{Outcome}
+use Rattle.endings.specs.declared.outcome.Outcome.TheVariants.{Holds}
+use Rattle.endings.specs.declared.show.Show.TheVariants.{Output}
+use Rattle.endings.specs.Settings.{usual_settings}
 use Rattle.activations.specs.Activations.{IsActivation, cycles_of}
 use Rattle.jop_cli.specs.promises.Words.{Call, Parts, IsLinked, image_of, LoopBound, IsRead, RanLinked, Stage, linked_setting, Keeps, bounds_of}
 use Rattle.jop_cli.specs.promises.Runs.{IsOver, IsBoundary}

@@ -5,7 +5,7 @@ ghost use Rattle.outside.specs.Memory.{bytes_or_empty};
 ghost use Rattle.test_commands.specs.Checked.{Came, AreKept, CheckedCallsAreKept, check_words, check_files, run_words, run_files};
 
 use crate::row::files_of;
-use commands::outcome::Outcome;
+use endings::outcome::Outcome;
 use jop_cli::jop;
 use jop_cli::laws::{bounds_are_kept, bounds_hold_in_runs, runs_are_the_bytecodes};
 use jop_core::NoWatch;

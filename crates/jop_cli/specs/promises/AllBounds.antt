@@ -4,11 +4,11 @@ use Rattle.command_line.specs.declared.command.Command.TheVariants.{BoundAll, Bo
 use Rattle.method_bounds.specs.declared.answer.BoundAnswer.{BoundAnswer}
 use Rattle.analysis_commands.specs.Bounding.{IsBoundNumber}
 use Rattle.std.specs.declared.option.Option.{Option}
-use Rattle.analysis_commands.specs.Shapes.{shape_with, with_shape, AreShapeLines}
-use Rattle.commands.specs.AllBounds.{SaysBounds}
+use Rattle.ask_commands.specs.Shapes.{shape_with, with_shape, AreShapeLines}
+use Rattle.ask_commands.specs.AllBounds.{SaysBounds}
 use Rattle.jop_cli.specs.promises.Words.{Grew, resolved, BoundsActivations, Settings, Parts, timing_of, bounds_of, text_of_word, Call, AreFiles, command_of}
 use Rattle.jop_cli.specs.promises.Words.{Written, ClassFile}
-use Rattle.jop_cli.specs.Profiling.{bound_told}
+use Rattle.run_commands.specs.Profiling.{bound_told}
 use Rattle.jop_cli.specs.promises.Images.{IsOpened, HasNoLoop}
 
 -- ---- `bound --all`

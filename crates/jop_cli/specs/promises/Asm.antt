@@ -4,10 +4,10 @@ use Rattle.microcode_asm.specs.declared.Rom.{Rom}
 use Rattle.microcode_asm.specs.Roms.{IsAssembled}
 use Rattle.microcode_asm.specs.Listing.{listing_of}
 use Rattle.command_line.specs.declared.command.Command.TheVariants.{Asm as Assemble}
-use Rattle.commands.specs.declared.outcome.Ending.TheVariants as endings
-use Rattle.commands.specs.declared.outcome.AsmRefusal.{AsmRefusal}
-use Rattle.commands.specs.declared.outcome.Refusal.TheVariants.{Asm as NotAssembled}
-use Rattle.commands.specs.Assembling.{IsNoProgram, PutsListing}
+use Rattle.endings.specs.declared.outcome.Ending.TheVariants as endings
+use Rattle.endings.specs.declared.outcome.AsmRefusal.{AsmRefusal}
+use Rattle.endings.specs.declared.outcome.Refusal.TheVariants.{Asm as NotAssembled}
+use Rattle.ask_commands.specs.Assembling.{IsNoProgram, PutsListing}
 use Rattle.jop_cli.specs.promises.Words.{Written, Call, PutsOut, command_of, NothingFailed, LacksMemory, Refused}
 use Rattle.jop_cli.specs.Calls.{IsTold}
 use Rattle.jop_cli.specs.promises.Answers.{AnswersEnding}

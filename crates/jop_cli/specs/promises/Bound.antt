@@ -11,7 +11,7 @@ use Rattle.bound_rules.specs.Bounding.{IsCause}
 use Rattle.answer_lines.specs.declared.bound.BoundCause.{BoundCause}
 use Rattle.answer_lines.specs.AnalysisLines.{cause_parts}
 use Rattle.analysis_commands.specs.Bounding.{MethodHasName, IsBoundBy, cause_of, subject_of}
-use Rattle.commands.specs.declared.outcome.Refusal.TheVariants.{Bound as Forbidden}
+use Rattle.endings.specs.declared.outcome.Refusal.TheVariants.{Bound as Forbidden}
 use Rattle.jop_cli.specs.promises.Words.{Settings, command_of, Parts, IsLinked, image_of, LoopBound, IsRead, text_of_word, CodesFit, Call, OperandsAreTold}
 use Rattle.jop_cli.specs.promises.Words.{resolved, timing_of, bounds_of, Written, PutsOut, NothingFailed, LacksMemory, named_or_number, Refused, AreSettings}
 use Rattle.jop_cli.specs.promises.Words.{IsSetting, BoundsActivations, IsResolved, linked_setting, Grew, AreFiles, ClassFile, body_of}

@@ -12,8 +12,8 @@ use Rattle.bound_rules.specs.Conditions.{MeetsConditions}
 use Rattle.bound_rules.specs.Refused.{IsCertRefused}
 use Rattle.answer_lines.specs.AnalysisLines.{held_parts, fault_parts}
 use Rattle.analysis_commands.specs.Checking.{fault_name}
-use Rattle.commands.specs.declared.outcome.Refusal.TheVariants.{Check as NotChecked}
-use Rattle.commands.specs.declared.outcome.Outcome.TheVariants.{Holds}
+use Rattle.endings.specs.declared.outcome.Refusal.TheVariants.{Check as NotChecked}
+use Rattle.endings.specs.declared.outcome.Outcome.TheVariants.{Holds}
 use Rattle.certificates.specs.CertLines.{IsBoundValue}
 use Rattle.jop_cli.specs.promises.Words.{Settings, command_of, Parts, IsLinked, image_of, LoopBound, IsRead, CodesFit, Call, OperandsAreTold, resolved}
 use Rattle.jop_cli.specs.promises.Words.{timing_of, bounds_of, NothingFailed, LacksMemory, IsSetting, BoundsActivations, IsResolved, linked_setting}

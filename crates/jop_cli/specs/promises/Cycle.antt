@@ -5,15 +5,16 @@ use Rattle.run_devices.specs.Lent.{Lent, wired}
 use Rattle.run_follower.specs.declared.watch.activation.Activation.{Activation}
 use Rattle.run_follower.specs.Watch.Watched.{is_slot, cycles_of as used_by}
 use Rattle.activation_laws.specs.Seen.{IsActivationIn}
-use Rattle.slot_plans.specs.Plan.{IsPlan, IsExecutive}
-use Rattle.commands.specs.Following.{run_stages}
-use Rattle.commands.specs.LinkedFile.{IsUnheld}
-use Rattle.commands.specs.Executive.{IsReadied}
+use Rattle.slot_plans.specs.Plan.{IsPlan}
+use Rattle.analysis_commands.specs.Executive.{IsExecutive}
+use Rattle.run_commands.specs.Following.{run_stages}
+use Rattle.endings.specs.Fitting.{IsUnheld}
+use Rattle.endings.specs.Executive.{IsReadied}
 use Rattle.jop_cli.specs.promises.Words.{Settings, Parts, Slot, Ending, line_of, Grew, IsQuiet, Call, LacksMemory, IsLinkedWith, outcome_of, command_of}
 use Rattle.jop_cli.specs.promises.Words.{NothingFailed, linked_reset, Stage, linked_setting, AreSettings, timing_of, Keeps, resolved, bounds_of}
 use Rattle.jop_cli.specs.promises.Words.{named_or_number, AreFiles, text_of_word}
-use Rattle.jop_cli.specs.Profiling.{unwatched}
-use Rattle.jop_cli.specs.Cycling.{RanCycle, EndsCycle, cycled_files}
+use Rattle.run_commands.specs.Profiling.{unwatched}
+use Rattle.run_commands.specs.Cycling.{RanCycle, EndsCycle, cycled_files}
 use Rattle.jop_cli.specs.promises.Runs.{IsOver}
 use Rattle.jop_cli.specs.promises.Plan.{AreReadied}
 

@@ -2,9 +2,9 @@
 use Rattle.std.specs.Prelude.{◌≡◌, ℕ, List, ◌⊎◌, Ok}
 use Rattle.command_line.specs.declared.command.Command.TheVariants.{Link as LinkTo}
 use Rattle.answer_lines.specs.declared.line.Sizes.{Sizes}
-use Rattle.commands.specs.declared.outcome.Ending.TheVariants as endings
-use Rattle.commands.specs.declared.outcome.Ending.TheVariants.{Linked}
-use Rattle.commands.specs.Linking.{AreLinkedTo, class_name, ReadsFiles, PutsImage}
+use Rattle.endings.specs.declared.outcome.Ending.TheVariants as endings
+use Rattle.endings.specs.declared.outcome.Ending.TheVariants.{Linked}
+use Rattle.endings.specs.Linking.{AreLinkedTo, class_name, ReadsFiles, PutsImage}
 use Rattle.jop_cli.specs.promises.Words.{Written, line_of, Call, PutsOut, command_of, LinkRefusal, text_of_word, RefusesFiles, NothingFailed, LacksMemory}
 use Rattle.jop_cli.specs.promises.Words.{OperandsAreTold, Grew}
 use Rattle.jop_cli.specs.promises.Answers.{AnswersRefusal}

@@ -11,7 +11,7 @@ use Rattle.loop_rules.specs.Further.Known.{Known}
 use Rattle.loop_rules.specs.Further.Arrays.{IsKnownBy}
 use Rattle.activation_laws.specs.Counted.Others.{CountsIn, CountsFurtherIn, KeepsOthers, KeepsFurtherOthers}
 use Rattle.analysis_commands.specs.Loops.{AreLoopLines, AreFurtherLines}
-use Rattle.commands.specs.declared.show.Show.TheVariants as shows
+use Rattle.endings.specs.declared.show.Show.TheVariants as shows
 use Rattle.method_runs.specs.Runs.{Walks, boot_walks}
 use Rattle.loop_nest.specs.Digraph.{Digraph}
 use Rattle.loop_nest.specs.Walks.{KeepsBound}

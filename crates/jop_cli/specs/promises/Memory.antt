@@ -17,7 +17,7 @@ use Rattle.boundary.specs.Activations.{Stage}
 use Rattle.memory_rules.specs.declared.causes.NeedCause.{NeedCause}
 use Rattle.analysis_commands.specs.declared.memory.MemoryRefusal.{MemoryRefusal}
 use Rattle.analysis_commands.specs.declared.memory.MemoryRefusal.TheVariants.{NoMemory, NoNeed}
-use Rattle.commands.specs.Needs.{SaysNeed, SaysBareNeed}
+use Rattle.ask_commands.specs.Needs.{SaysNeed, SaysBareNeed}
 use Rattle.jop_cli.specs.promises.Words.{ClassFile, resolved, bounds_of, Grew, Parts, text_of_word, Call, BareContent, IsBareFile, AreFiles, command_of}
 use Rattle.jop_cli.specs.promises.Words.{Written, IsResolved, Settings, IsLinked, Show, RanLinked, linked_setting}
 use Rattle.jop_cli.specs.promises.Images.{IsOpened}

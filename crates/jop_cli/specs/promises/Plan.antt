@@ -3,13 +3,14 @@ use Rattle.std.specs.Prelude.{ℕ, List, ◌∷◌, ◌++◌, ◌≡◌, [], Vec
 use Rattle.std.specs.declared.alloc.Global.{Global}
 use Rattle.command_line.specs.declared.command.Command.TheVariants.{Plan as ToPlan}
 use Rattle.slot_table.specs.Grammar as tables
-use Rattle.slot_plans.specs.Plan.{IsExecutive, IsPlan}
-use Rattle.commands.specs.declared.outcome.Answer.TheVariants.{Text, Ends}
-use Rattle.commands.specs.Executive.{executive_class, with_executive, IsReadied}
+use Rattle.analysis_commands.specs.Executive.{IsExecutive}
+use Rattle.slot_plans.specs.Plan.{IsPlan}
+use Rattle.endings.specs.declared.outcome.Answer.TheVariants.{Text, Ends}
+use Rattle.endings.specs.Executive.{executive_class, with_executive, IsReadied}
 use Rattle.jop_cli.specs.promises.Words.{LinkRefusal, Slot, RefusesFiles, Call, OperandsAreTold, Parts, resolved, named_or_number, IsLinkedWith, Settings}
 use Rattle.jop_cli.specs.promises.Words.{Ending, Written, line_of, Grew, IsQuiet, LacksMemory, PutsOut, outcome_of, command_of, NothingFailed, AreFiles}
 use Rattle.jop_cli.specs.promises.Words.{BoundsActivations, timing_of, bounds_of, text_of_word, ClassFile, IsSetting, linked_setting}
-use Rattle.jop_cli.specs.Planning.{AnswersPlan, planned_files}
+use Rattle.slot_plans.specs.Planning.{AnswersPlan, planned_files}
 
 -- ---- `plan` and `cycle`
 

@@ -7,11 +7,11 @@ use Rattle.run_follower.specs.declared.watch.profile.Profile.{Profile}
 use Rattle.activation_laws.specs.Profiled.{EachKeeps, ProfileIsWithin}
 use Rattle.method_bounds.specs.declared.answer.BoundAnswer.{BoundAnswer}
 use Rattle.method_bounds.specs.Profiles.{profile_lines}
-use Rattle.commands.specs.Following.{run_stages}
+use Rattle.run_commands.specs.Following.{run_stages}
 use Rattle.jop_cli.specs.promises.Words.{Settings, command_of, Parts, IsLinked, image_of, LoopBound, IsRead, CodesFit, Call, OperandsAreTold, Ending}
 use Rattle.jop_cli.specs.promises.Words.{named_or_number, line_of, PutsOut, outcome_of, NothingFailed, LacksMemory, linked_reset, Stage, linked_setting}
 use Rattle.jop_cli.specs.promises.Words.{AreSettings, bounds_of, text_of_word, BareContent, IsBareFile, Grew, AreFiles}
-use Rattle.jop_cli.specs.Profiling.{RanProfile, EndsRun, unwatched, input_of, bound_told, RanBareProfile}
+use Rattle.run_commands.specs.Profiling.{RanProfile, EndsRun, unwatched, input_of, bound_told, RanBareProfile}
 use Rattle.jop_cli.specs.promises.Runs.{IsOver}
 
 -- ---- `profile`

@@ -2,13 +2,13 @@
 use Rattle.std.specs.Prelude.{◌≡◌, ℕ, List, [], Vec, length, Ok}
 use Rattle.std.specs.declared.alloc.Global.{Global}
 use Rattle.image_file.specs.Linked as file
-use Rattle.commands.specs.declared.outcome.Answer.TheVariants.{Text, Ends}
+use Rattle.endings.specs.declared.outcome.Answer.TheVariants.{Text, Ends}
 use Rattle.jop_cli.specs.promises.Words.{Parts, Ending, Written, line_of, Grew, IsQuiet, Call, LacksMemory, PutsOut, outcome_of, Command, command_of}
 use Rattle.jop_cli.specs.promises.Words.{IsLinked, image_of, text_of_word, NothingFailed, OperandsAreTold, task_of}
-use Rattle.jop_cli.specs.declared.asking.Question.{Question}
-use Rattle.jop_cli.specs.declared.asking.Asked.{Asked}
+use Rattle.ask_commands.specs.declared.asking.Question.{Question}
+use Rattle.ask_commands.specs.declared.asking.Asked.{Asked}
 use Rattle.jop_cli.specs.declared.task.Task.TheVariants.{Ask}
-use Rattle.jop_cli.specs.Asking.{IsAnswer}
+use Rattle.ask_commands.specs.Asking.{IsAnswer}
 
 -- What comes of a question about what is linked: the whole of a text was put that answers it, and no line; or a line was said, and nothing was put,
 -- where an ending answers; or there was no memory.

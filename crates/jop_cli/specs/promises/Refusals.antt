@@ -5,19 +5,19 @@ use Rattle.std.specs.declared.alloc.Global.{Global}
 use Rattle.image_file.specs.Linked as file
 use Rattle.image_file.specs.Linked.{LinkedContent}
 use Rattle.command_line.specs.declared.command.Command.TheVariants.{Plan as ToPlan, Cycle as ToCycle}
-use Rattle.commands.specs.declared.outcome.Ending.TheVariants.{Refused, TooLong}
-use Rattle.commands.specs.declared.outcome.Refusal.TheVariants.{Usage, TooBig, BadImage, Differs, MethodTooLong, MemoryTooSmall}
-use Rattle.commands.specs.LinkedSettings.{IsTooLong}
-use Rattle.commands.specs.BareFile.{blocks_of_code}
+use Rattle.endings.specs.declared.outcome.Ending.TheVariants.{Refused, TooLong}
+use Rattle.endings.specs.declared.outcome.Refusal.TheVariants.{Usage, TooBig, BadImage, Differs, MethodTooLong, MemoryTooSmall}
+use Rattle.endings.specs.Fitting.{IsTooLong}
+use Rattle.endings.specs.Fitting.{blocks_of_code}
 use Rattle.outside.specs.Outside.{Rose}
 use Rattle.outside.specs.Files.{most_bytes}
-use Rattle.commands.specs.LinkedFile.{NamesMethod}
+use Rattle.endings.specs.Fitting.{NamesMethod}
 use Rattle.jopizer.specs.Images.{DiffersFirst}
 use Rattle.jop_cli.specs.promises.Words.{command_of, Call, Command, task_of, NothingFailed, LacksMemory, BareContent, IsBareFile, LinkRefusal, RefusesFiles}
 use Rattle.jop_cli.specs.promises.Words.{Settings, Parts, IsLinked, image_of, Slot, IsLinkedWith, CodesFit}
-use Rattle.jop_cli.specs.declared.asking.Question.{Question}
+use Rattle.ask_commands.specs.declared.asking.Question.{Question}
 use Rattle.jop_cli.specs.declared.task.Task.TheVariants.{Run, Profile, Plan, Cycle, Assemble, Link, Ask, Work}
-use Rattle.jop_cli.specs.declared.asking.Question.TheVariants.{Check, Bound, Bounds, Shapes, Report, Loops, Headers, Memory}
+use Rattle.ask_commands.specs.declared.asking.Question.TheVariants.{Check, Bound, Bounds, Shapes, Report, Loops, Headers, Memory}
 use Rattle.jop_cli.specs.declared.task.Task.{Task}
 use Rattle.jop_cli.specs.promises.Answers.{AnswersEnding, AnswersRefusal}
 use Rattle.jop_cli.specs.promises.Plan.{AreReadied}

@@ -9,7 +9,7 @@ use Rattle.bound_report.specs.declared.reports.Report.{Report}
 use Rattle.bound_report.specs.Report.{IsReportOf}
 use Rattle.source_places.specs.Methods.Sources.{source_at}
 use Rattle.report_lines.specs.Entries.{AreEntries}
-use Rattle.commands.specs.Reporting.{reported_bound, SaysReport}
+use Rattle.ask_commands.specs.Reporting.{reported_bound, SaysReport}
 use Rattle.jop_cli.specs.promises.Words.{ClassFile, resolved, Grew, AreFiles, BoundsActivations, Settings, Parts, timing_of, bounds_of, text_of_word, Call}
 use Rattle.jop_cli.specs.promises.Words.{command_of, Written}
 use Rattle.jop_cli.specs.promises.Images.{IsOpened}

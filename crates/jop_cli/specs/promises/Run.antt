@@ -2,8 +2,8 @@
 use Rattle.std.specs.Prelude.{ℕ, ◌≤◌, List, length, ◌≡◌, ◌⊎◌, Ok, Bool, Some}
 use Rattle.image_file.specs.Linked as file
 use Rattle.command_line.specs.declared.command.Command.TheVariants.{Run, Trace}
-use Rattle.commands.specs.declared.show.Show.TheVariants as shows
-use Rattle.commands.specs.BareFile.{blocks_of_code}
+use Rattle.endings.specs.declared.show.Show.TheVariants as shows
+use Rattle.endings.specs.Fitting.{blocks_of_code}
 use Rattle.jop_cli.specs.promises.Words.{Settings, Parts, IsLinked, image_of, CodesFit, Call, command_of, NothingFailed, LacksMemory, RanLinked, Stage, Show}
 use Rattle.jop_cli.specs.promises.Words.{BareContent, IsBareFile}
 use Rattle.jop_cli.specs.Calls.{IsTold}

@@ -5,9 +5,9 @@ use Rattle.machine_memory.specs.declared.timing.Config.{Config}
 use Rattle.bytecode_model.specs.State.{State}
 use Rattle.bytecode_model.specs.Steps.{boot_state}
 use Rattle.boundary.specs.Runs.{Goes, input_of}
-use Rattle.commands.specs.declared.outcome.Outcome.{Outcome}
-use Rattle.commands.specs.declared.outcome.Outcome.TheVariants.{Ended, Uncaught, Spent}
-use Rattle.commands.specs.World.{Reads}
+use Rattle.endings.specs.declared.outcome.Outcome.{Outcome}
+use Rattle.endings.specs.declared.outcome.Outcome.TheVariants.{Ended, Uncaught, Spent}
+use Rattle.endings.specs.World.{Reads}
 use Rattle.bytecode_typing.specs.Fits.{IsGoing}
 use Rattle.method_runs.specs.Runs.{Walks, walks_from}
 use Rattle.boundary.specs.Setting.{limits}

@@ -1,8 +1,8 @@
 -- What `work` promises.
 use Rattle.std.specs.Prelude.{◌≡◌, ℕ, List, [], Ok}
 use Rattle.command_line.specs.declared.command.Command.TheVariants.{Work}
-use Rattle.commands.specs.declared.outcome.Ending.TheVariants as endings
-use Rattle.commands.specs.Working.{IsWorkLine, NotWorked}
+use Rattle.endings.specs.declared.outcome.Ending.TheVariants as endings
+use Rattle.run_commands.specs.Working.{IsWorkLine, NotWorked}
 use Rattle.jop_cli.specs.promises.Words.{Written, Call, PutsOut, Ending, LacksMemory, command_of, NothingFailed}
 use Rattle.jop_cli.specs.promises.Answers.{AnswersEnding}
 

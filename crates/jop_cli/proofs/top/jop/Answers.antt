@@ -1,6 +1,6 @@
 use Rattle.std.proofs.Common.{subst, ⊎_elim}
-use Rattle.commands.specs.declared.outcome.Outcome.{Outcome}
-use Rattle.commands.specs.Leaving.{LeavesAll}
+use Rattle.endings.specs.declared.outcome.Outcome.{Outcome}
+use Rattle.endings.specs.Leaving.{LeavesAll}
 use Rattle.jop_cli.proofs.Leaving.{leaves_said, leaves_unsaid}
 use Rattle.jop_cli.proofs.top.jop.Goals as goal
 

@@ -1,11 +1,11 @@
 use Rattle.std.proofs.Common.{sym, subst}
 use Rattle.command_line.specs.Command.{texts}
 use Rattle.jop_cli.specs.declared.task.Task.{Task}
-use Rattle.commands.specs.World.{world}
+use Rattle.endings.specs.World.{world}
 use Rattle.jop_cli.specs.Answer.{DoesTask, ShowsOutput, TakesFor}
 use Rattle.jop_cli.proofs.Executing.{traces_else, assembles_risen, links_risen, asks_risen}
 use Rattle.jop_cli.proofs.Planned.{plans_risen}
-use Rattle.commands.proofs.Worked.{works_risen}
+use Rattle.run_commands.proofs.Worked.{works_risen}
 use Rattle.jop_cli.proofs.top.perform.Goals as goal
 
 pub returns-in-Assemble-clause-does : goal.returns-in-Assemble-clause-does

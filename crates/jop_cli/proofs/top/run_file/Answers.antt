@@ -1,5 +1,5 @@
 use Rattle.std.proofs.Common.{ap}
-use Rattle.commands.specs.World.{world}
+use Rattle.endings.specs.World.{world}
 use Rattle.jop_cli.proofs.Executing.{runs_read}
 use Rattle.jop_cli.proofs.top.run_file.Goals as goal
 

@@ -1,7 +1,7 @@
 use Rattle.std.proofs.Common.{ℕ, List, [], ◌∷◌, ◌++◌}
 use Rattle.std.specs.Prelude.{codes, decimal}
 use Rattle.slot_table.specs.Slots.{slot_word}
-use Rattle.analysis_commands.proofs.Shaping.{put_two}
+use Rattle.analysis_commands.proofs.Texts.{put_two}
 use Rattle.slot_plans.proofs.plan.put_plan_line.Goals as goal
 
 pub returns : goal.returns

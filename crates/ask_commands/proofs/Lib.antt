@@ -1,0 +1,7 @@
+pub mod Fitting
+pub mod NeedAnswers
+pub mod BoundAnswers
+pub mod Reported
+pub mod Shown
+pub mod LoopAnswers
+pub mod Shaping

@@ -1,0 +1,9 @@
+pub mod Assembling
+pub mod Checking
+pub mod Bounding
+pub mod Needs
+pub mod Headers
+pub mod Reporting
+pub mod AllBounds
+pub mod Asking
+pub mod Shapes

@@ -1,0 +1,12 @@
+//! What is asked of an image and answered by a text or by a line, and the listing of a microprogram.
+#![tactic(auto)]
+
+pub mod all_bounds;
+pub mod asking;
+pub mod assembling;
+pub mod bounding;
+pub mod checking;
+pub mod headers;
+pub mod needs;
+pub mod reporting;
+pub mod shapes;

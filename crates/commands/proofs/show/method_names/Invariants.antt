@@ -1,5 +1,0 @@
-use Rattle.commands.proofs.Named.{AreFirst}
-use Rattle.commands.proofs.show.method_names.Given as goal
-
-abbrev pub invariant-loop-number : goal.invariant-loop-number
-invariant-loop-number l = AreFirst l.program l.number l.names.items

@@ -1,0 +1,14 @@
+pub mod Show
+pub mod Line
+pub mod Phase
+pub mod World
+pub mod Leaving
+pub mod Linking
+pub mod Opening
+pub mod Executive
+pub mod Status
+pub mod DeviceFaults
+pub mod AnalysisFaults
+pub mod Fitting
+pub mod Settings
+pub mod Putting

@@ -1,0 +1,13 @@
+pub mod Reset
+pub mod Settled
+pub mod Starting
+pub mod Ended
+pub mod Held
+pub mod Watched
+pub mod Followed
+pub mod Worked
+pub mod Said
+pub mod InRuns
+pub mod Profiled
+pub mod Cycled
+pub mod Least

@@ -1,0 +1,10 @@
+pub mod Run
+pub mod BareFile
+pub mod LinkedRun
+pub mod LinkedSettings
+pub mod LinkedFile
+pub mod Following
+pub mod Working
+pub mod Preparing
+pub mod Profiling
+pub mod Cycling
