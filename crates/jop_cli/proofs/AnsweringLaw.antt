@@ -22,7 +22,7 @@ use Rattle.jop_cli.proofs.AskingLaw.{Comes, comes}
 use Rattle.jop_cli.proofs.AskingLaw as asked
 
 -- what a command does that asks a question
-asks : (words : List (List ℕ)) (command : Command) (a : Asked) (old new : World) (ending : Ending) → task_of command ≡ Ask a → Does words (Ok command) old new ending → AsksFiles words a old new ending
+pub asks : (words : List (List ℕ)) (command : Command) (a : Asked) (old new : World) (ending : Ending) → task_of command ≡ Ask a → Does words (Ok command) old new ending → AsksFiles words a old new ending
 asks words command a old new ending is does = subst (λ (x : Task). DoesTask words x old new ending) is does
 
 answered : (c : Call) (a : Asked) (l : Parts) (files : List (List ℕ)) (ending : Ending) → IsWholly c ending → Comes c a l files ending → IsAnswered c a.question l files

@@ -44,3 +44,5 @@ mod OneNeed
 mod OneLoops
 mod OnePlan
 mod OneHeaders
+mod OneAllBounds
+mod TextFaults

@@ -16,8 +16,8 @@ pub use Rattle.jop_cli.specs.promises.Check.{CheckingIsComplete, FaultsAreAnswer
 -- `bound`: a certificate is put where nothing forbids a bound, else a cause that stands; its bound is kept; a name is that of one method.
 pub use Rattle.jop_cli.specs.promises.Bound.{BoundingIsComplete, BoundRefusalsAreCaused, CausesAreAnswered, WrittenBoundsAreKept, BoundsAreKept}
 pub use Rattle.jop_cli.specs.promises.Bound.{NamesTellMethods}
--- `bound --all`, `bound --shapes`: each number in a line is kept.
-pub use Rattle.jop_cli.specs.promises.AllBounds.{AllBoundsAreKept, ShapesAreKept}
+-- `bound --all`, `bound --shapes`: each number in a line is kept, and the lines of the first are the only answer.
+pub use Rattle.jop_cli.specs.promises.AllBounds.{AllBoundsAreKept, ShapesAreKept, AllBoundsAreOne}
 -- A bound holds in each run of what is linked, that of a checked certificate in runs of the same bytes; methods that fit the cache are loaded once.
 pub use Rattle.jop_cli.specs.promises.Activations.{BoundsHoldInRuns, CheckedRunsAreKept, MethodsAreLoadedOnce}
 -- `report`: the lines add up to the bound, which is kept.
@@ -46,3 +46,5 @@ pub use Rattle.jop_cli.specs.promises.Work.{WorkingIsComplete, WorkLinesAreTrue}
 -- Words, files, images and machines are refused where something is wrong with them, the first of these that stands.
 pub use Rattle.jop_cli.specs.promises.Refusals.{NoCommandIsRefused, LongFilesAreRefused, BadImagesAreRefused, UnlinkedImagesAreRefused}
 pub use Rattle.jop_cli.specs.promises.Refusals.{DifferingImagesAreRefused, LongMethodsAreRefused, LongBareCodesAreRefused, SmallMemoriesAreRefused}
+-- So are texts of bounds, of lengths and of lines of sources, each by its first line that is refused, or that says something of no loop.
+pub use Rattle.jop_cli.specs.promises.Texts.{BadBoundsAreRefused, BadSizesAreRefused, BadLinesAreRefused, StrayLinesAreRefused}

@@ -20,3 +20,4 @@ pub mod Questions
 pub mod Asm
 pub mod Work
 pub mod Refusals
+pub mod Texts

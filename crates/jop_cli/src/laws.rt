@@ -18,10 +18,11 @@ ghost use Rattle.jop_cli.specs.promises.Plan.{ExecutivesAreThere, PlansAreAnswer
 ghost use Rattle.jop_cli.specs.promises.Cycle.{CyclesAreRuns, SlotsAreKept, CyclesAreShown, NoSlotIsLate};
 ghost use Rattle.jop_cli.specs.promises.Report.{ReportsAddUp, ReportsAreKept};
 ghost use Rattle.jop_cli.specs.promises.Work.{WorkingIsComplete, WorkLinesAreTrue};
-ghost use Rattle.jop_cli.specs.promises.AllBounds.{AllBoundsAreKept, ShapesAreKept};
+ghost use Rattle.jop_cli.specs.promises.AllBounds.{AllBoundsAreKept, ShapesAreKept, AllBoundsAreOne};
 ghost use Rattle.jop_cli.specs.promises.Runs.{RunsAreShown, RunsComeToBoundaries};
 ghost use Rattle.jop_cli.specs.promises.Refusals.{NoCommandIsRefused, LongFilesAreRefused, BadImagesAreRefused, UnlinkedImagesAreRefused};
 ghost use Rattle.jop_cli.specs.promises.Refusals.{DifferingImagesAreRefused, LongMethodsAreRefused, LongBareCodesAreRefused, SmallMemoriesAreRefused};
+ghost use Rattle.jop_cli.specs.promises.Texts.{BadBoundsAreRefused, BadSizesAreRefused, BadLinesAreRefused, StrayLinesAreRefused};
 
 use activation_laws::counted::laws::{
     boot_holds_constants, counted_loops_of_runs, found_loops_count, further_found_loops_count,
@@ -194,6 +195,16 @@ pub fn plans_are_one()
     method_runs::typed_graphs::laws::typed_methods_reach_starts();
 }
 
+/// The lines of all methods are the only answer.
+pub fn all_bounds_are_one()
+    ensures { AllBoundsAreOne }
+{
+    gives_one();
+    answer_laws::laws::bound_lines_are_one();
+    bound_laws::laws::own_costs_exist();
+    bound_laws::laws::resolved_codes_are_short();
+}
+
 /// Where there is a plan, the slots of a cycle keep their lengths, and its line says that none was late.
 pub fn slots_are_kept()
     ensures kept { SlotsAreKept }
@@ -305,4 +316,22 @@ pub fn refusals_are_answered()
     refusals_are_one();
     one_bare_image();
     executives_are_answered();
+}
+
+/// A text that a question about what is linked is asked of is refused by one line, which is answered.
+pub fn texts_are_refused()
+    ensures bounds { BadBoundsAreRefused }
+    ensures sizes { BadSizesAreRefused }
+    ensures lines { BadLinesAreRefused }
+    ensures stray { StrayLinesAreRefused }
+{
+    one_linked();
+    linked_images_are_read();
+    read_is_not_refused();
+    read_lengths_are_not_refused();
+    bound_texts::sources::laws::gives_one();
+    bound_texts::sources::laws::read_is_not_refused();
+    text_laws::laws::bounds_faults_are_one();
+    text_laws::laws::length_faults_are_one();
+    text_laws::laws::note_faults_are_one();
 }

@@ -7,7 +7,7 @@ use Rattle.std.specs.declared.option.Option.{Option}
 use Rattle.ask_commands.specs.Shapes.{shape_with, with_shape, AreShapeLines}
 use Rattle.ask_commands.specs.AllBounds.{SaysBounds}
 use Rattle.jop_cli.specs.promises.Words.{Grew, resolved, BoundsActivations, Settings, Parts, timing_of, bounds_of, text_of_word, Call, AreFiles, command_of}
-use Rattle.jop_cli.specs.promises.Words.{Written, ClassFile}
+use Rattle.jop_cli.specs.promises.Words.{Written, ClassFile, IsResolved, IsSetting, linked_setting, AreSettings}
 use Rattle.run_commands.specs.Profiling.{bound_told}
 use Rattle.jop_cli.specs.promises.Images.{IsOpened, HasNoLoop}
 
@@ -35,6 +35,13 @@ abbrev pub AllBoundsAreKept : Type 0
 AllBoundsAreKept =
     (c : Call) (settings : Settings) (image bounds : ℕ) → command_of c.words ≡ Ok (BoundAll settings image bounds) → c.outcome ≡ Written
     → ShowsAllBounds c settings image
+
+-- The lines are the only answer: two texts of the lines of all methods, with the same bounds of loops and the same settings, are one, where a machine runs
+-- the program.
+abbrev pub AllBoundsAreOne : Type 0
+AllBoundsAreOne =
+    (cs : List ClassFile) → IsResolved cs → IsSetting (linked_setting cs 0 0) → (settings : Settings) → AreSettings settings → (bounds_text text other : List ℕ)
+    → SaysBounds cs settings bounds_text text → SaysBounds cs settings bounds_text other → text ≡ other
 
 -- ---- `bound --shapes`
 

@@ -1,0 +1,3 @@
+pub mod FirstBad
+pub mod LoopFaults
+pub mod NoteFaults
