@@ -57,6 +57,11 @@ public final class Arrays {
         return to;
     }
 
+    /** An array of the class of another one; `tools/adapt` gives it all classes of arrays that a program makes. */
+    public static Object[] ofKind(Object[] other, int count) {
+        return new Object[count];
+    }
+
     public static boolean[][] newBooleans(int count, int second) {
         check(second);
         boolean[][] made = new boolean[count][];

@@ -43,6 +43,17 @@ public final class Defaults {
         return isChanged;
     }
 
+    /** The elements in an array of the class of another one: in that, where there is room. */
+    public static Object[] toArray(Collection<?> all, Object[] to) {
+        Object[] from = all.toArray();
+        Object[] whole = to.length < from.length ? Arrays.ofKind(to, from.length) : to;
+        Copies.copy(from, 0, whole, 0, from.length);
+        if (whole.length > from.length) {
+            whole[from.length] = null;
+        }
+        return whole;
+    }
+
     public static boolean containsAll(Collection<?> all, Collection<?> others) {
         Iterator<?> each = others.iterator();
         while (each.hasNext()) { //@WCA loop=64 elements

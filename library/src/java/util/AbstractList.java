@@ -112,6 +112,23 @@ public abstract class AbstractList<E> implements List<E>, CollectionMethods, ToT
         return new ListIteration<E>(this);
     }
 
+    /** Raises an exception where a list of so many elements has no such part. */
+    static void checkPart(int first, int end, int count) {
+        if (first < 0 || end > count) {
+            throw new IndexOutOfBoundsException();
+        }
+        if (first > end) {
+            throw new IllegalArgumentException();
+        }
+    }
+
+    /** Shows the elements from a place up to another one. */
+    @Override
+    public List<E> subList(int first, int end) {
+        checkPart(first, end, size());
+        return new SubList<E>(this, first, end);
+    }
+
     /** Whether the other object is a list of equal elements. */
     @Override
     public boolean equals(Object other) {

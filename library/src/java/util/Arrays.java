@@ -738,6 +738,26 @@ public final class Arrays {
         return text.append(']').toText();
     }
 
+    /** The first elements, and behind them those of a new array. */
+    public static <T> T[] copyOf(T[] from, int length) {
+        Object[] to = jop.Arrays.ofKind(from, length);
+        Copies.copy(from, 0, to, 0, from.length < length ? from.length : length);
+        return (T[]) to;
+    }
+
+    /** The elements from a place up to another one, past the end those of a new array. */
+    public static <T> T[] copyOfRange(T[] from, int first, int end) {
+        if (first > end) {
+            throw new IllegalArgumentException();
+        }
+        if (first < 0 || first > from.length) {
+            throw new ArrayIndexOutOfBoundsException();
+        }
+        Object[] to = jop.Arrays.ofKind(from, end - first);
+        Copies.copy(from, first, to, 0, (end < from.length ? end : from.length) - first);
+        return (T[]) to;
+    }
+
     public static void fill(Object[] to, Object value) {
         for (int i = 0; i < to.length; i++) { //@WCA loop=64 elements
             to[i] = value;

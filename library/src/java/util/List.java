@@ -13,4 +13,6 @@ public interface List<E> extends Collection<E> {
     int indexOf(Object element);
 
     int lastIndexOf(Object element);
+
+    List<E> subList(int first, int end);
 }

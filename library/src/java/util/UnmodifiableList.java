@@ -101,4 +101,10 @@ final class UnmodifiableList<E> implements List<E>, RandomAccess, CollectionMeth
     public int lastIndexOf(Object element) {
         return inner.lastIndexOf(element);
     }
+
+    /** The elements that there are now. */
+    @Override
+    public List<E> subList(int first, int end) {
+        return new UnmodifiableList<E>(new FixedList<E>(inner.subList(first, end).toArray()));
+    }
 }

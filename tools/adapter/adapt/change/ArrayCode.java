@@ -92,6 +92,30 @@ final class ArrayCode {
         addCopying(to);
     }
 
+    /** Makes an array of references of the class of the first argument, which is one of those below or that of objects, of a count of elements. */
+    static void ofKind(MethodNode method, List<String> below) {
+        InsnList to = method.instructions;
+        to.clear();
+        to.add(new VarInsnNode(Opcodes.ALOAD, 0));
+        to.add(new InsnNode(Opcodes.ARRAYLENGTH));
+        to.add(new InsnNode(Opcodes.POP));
+        for (String each : below) {
+            LabelNode other = new LabelNode();
+            to.add(new VarInsnNode(Opcodes.ALOAD, 0));
+            to.add(new TypeInsnNode(Opcodes.INSTANCEOF, each));
+            to.add(new JumpInsnNode(Opcodes.IFEQ, other));
+            addCounted(to, each);
+            to.add(other);
+        }
+        addCounted(to, "[Ljava/lang/Object;");
+    }
+
+    private static void addCounted(InsnList to, String array) {
+        to.add(new VarInsnNode(Opcodes.ILOAD, 1));
+        addNew(to, array);
+        to.add(new InsnNode(Opcodes.ARETURN));
+    }
+
     private static void addSame(InsnList to, String array) {
         to.add(new VarInsnNode(Opcodes.ALOAD, 0));
         to.add(new InsnNode(Opcodes.ARRAYLENGTH));

@@ -17,6 +17,8 @@ import org.objectweb.asm.tree.MultiANewArrayInsnNode;
 
 /** Arrays of several dimensions, and copies of arrays: static methods of the class itself, or of `jop/Arrays`. */
 public final class ArrayForms implements Change {
+    private static final String ARRAYS = "jop/Arrays";
+    private static final String OBJECTS = "[Ljava/lang/Object;";
     private final Program program;
     private final Reach reach;
     private final Map<String, MethodNode> helpers = new LinkedHashMap<>();
@@ -29,6 +31,9 @@ public final class ArrayForms implements Change {
 
     @Override
     public void apply(LoadedClass owner, MethodNode method) {
+        if (owner.name().equals(ARRAYS) && method.name.equals("ofKind")) {
+            reach.atEnd(() -> ArrayCode.ofKind(method, reach.arraysBelow(OBJECTS)));
+        }
         for (AbstractInsnNode node : method.instructions.toArray()) {
             if (node instanceof MultiANewArrayInsnNode made) {
                 make(owner, method, made);
@@ -55,8 +60,8 @@ public final class ArrayForms implements Change {
 
     private void copy(LoadedClass owner, MethodNode method, MethodInsnNode call) {
         if (Type.getType(call.owner).getDimensions() == 1 && call.owner.length() == 2) {
-            program.report.replace(Code.place(owner, method, call), "clone() of an array", "jop/Arrays.clone");
-            method.instructions.set(call, Code.invokeStatic("jop/Arrays", "clone", "(" + call.owner + ")" + call.owner));
+            program.report.replace(Code.place(owner, method, call), "clone() of an array", ARRAYS + ".clone");
+            method.instructions.set(call, Code.invokeStatic(ARRAYS, "clone", "(" + call.owner + ")" + call.owner));
             return;
         }
         LoadedClass to = Code.helperOwner(program, owner);

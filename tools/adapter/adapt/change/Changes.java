@@ -15,7 +15,7 @@ public final class Changes {
     public Changes(Program program, Reach reach) {
         PrivateCalls privateCalls = new PrivateCalls(program);
         changes = List.of(new Assertions(program), new MachineMessages(program), new KnownTexts(program), new Enumerations(program, reach), new Concatenations(program),
-                new Lambdas(program, privateCalls), new LongArithmetic(program), new ArrayForms(program, reach), new InterfaceCalls(program),
+                new Lambdas(program, privateCalls), new LongArithmetic(program), new ArrayForms(program, reach), new SuperClones(program, reach), new InterfaceCalls(program),
                 new Locales(program), new ObjectMethods(program), new Descriptions(program), new ClassObjects(program, reach), new Literals(program, reach),
                 new Exceptions(program), new TextMethods(), privateCalls);
     }

@@ -150,7 +150,7 @@ public final class Reach {
     }
 
     /** A class or array class is named: its file is kept, with what stands above it. False where it isn't there. */
-    boolean name(String name) {
+    public boolean name(String name) {
         String element = name.startsWith("[") ? Type.getType(name).getElementType().getDescriptor() : "L" + name + ";";
         if (!element.startsWith("L")) {
             return true;
