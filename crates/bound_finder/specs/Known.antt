@@ -8,7 +8,9 @@ use Rattle.method_flow.specs.Keeping.{BoundOf}
 use Rattle.method_flow.specs.Live.{CanEnd}
 use Rattle.method_flow.specs.Recursion.{MayCall}
 use Rattle.method_flow.specs.declared.timing.Timing.{Timing}
-use Rattle.method_flow.specs.Regions.{load}
+use Rattle.method_flow.specs.Costs.{params}
+use Rattle.method_flow.specs.Regions.{load, IsGreatestLoad}
+use Rattle.micro_flow.specs.Costs.{IsGreatestInvoke}
 use Rattle.node_costs.specs.Costs.{bounds_of}
 use Rattle.bound_rules.specs.Fitting.{RegionFits, loads_of}
 use Rattle.bound_rules.specs.Numbers.{Numbers, IsInside, IsLoops, IsFull, charged_loops, no_fees}
@@ -33,6 +35,12 @@ bounds_in s = bounds_of s.flow s.bounds
 -- this holds for each program of the table
 abbrev pub ForEach : BoundSetting → (Program → Type 0) → Type 0
 ForEach s Holds = (P : Program) → IsFlowOf P s.flow → Holds P
+
+-- the dearest invoke takes at most so many cycles under the timing, and the greatest load of a method of the table is this
+pub record IsTask (s : BoundSetting) (invoke greatest_load : ℕ) : Type 0 where
+  pub setting : IsBoundSetting s
+  pub is_invoke : IsGreatestInvoke (params s.timing 0 0) invoke
+  pub is_load : ForEach s (λ P. IsGreatestLoad P s.timing.read greatest_load)
 
 -- ---- what is known
 

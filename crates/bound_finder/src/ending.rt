@@ -16,7 +16,6 @@ use super::methods::{Methods, lesser};
 use super::task::Task;
 use bound_rules::BoundRefusal;
 use certificates::Cert;
-use node_costs::printed;
 
 /// What `bound` answers of a method.
 #[derive(Clone, Copy)]
@@ -44,7 +43,7 @@ fn printed_small(task: &Task<'_>, full: Option<u64>) -> Option<Option<u64>>
     ensures some { IfSome result (IsPrintedSmall task.now full) }
     ensures none { IfNone result (IsPastLimit task.now full) }
 {
-    match printed(task.flow(), task.timing(), full) {
+    match task.printed(full) {
         Some(n) => match narrowed(n) {
             Some(n) => Some(Some(n)),
             None => None,

@@ -20,7 +20,7 @@ ghost use Rattle.bound_finder.specs.Ready.{AreReady, IsReadyOrder, IsSizeCause};
 mod charges;
 pub mod costs;
 pub mod ending;
-mod fit;
+pub mod fit;
 mod found;
 pub mod found_laws;
 pub mod known;
