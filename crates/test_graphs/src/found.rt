@@ -3,6 +3,7 @@ ghost use Rattle.std.specs.Prelude.{◌≡◌, length, vec_len};
 ghost use Rattle.loop_nest.specs.Nest.{IsNest};
 ghost use Rattle.loop_nest.specs.Reduction.{IsReducible};
 
+use crate::prices::show_prices;
 use crate::question::Problem;
 use crate::walks::{Greatest, greatest_walk};
 use loop_nest::loops::Nest;
@@ -10,6 +11,7 @@ use loop_nest::{Graph, blocks, is_graph, nest};
 use path_solver::regions::longest_with_regions;
 use path_solver::solved::{SolveFault, Solved};
 use path_solver::{check_section, greatest, longest};
+use price_search::VisitFact;
 use std::alloc::{AllocError, Global};
 use std::io;
 
@@ -24,6 +26,8 @@ pub enum Asked<'a> {
     Regions(&'a [bool]),
     /// Its value, found in several ways.
     Walks,
+    /// Its value without prices of facts and with them.
+    Prices(&'a [VisitFact]),
 }
 
 /// Prints the value of the greatest walk, and the listed nodes with their potentials.
@@ -221,6 +225,7 @@ fn show_asked(rt: &HostRuntime, problem: &Problem, nest: &Nest, asked: Asked<'_>
         Asked::Section => show_longest(rt, problem, nest, &loads, false),
         Asked::Regions(regions) => show_regions(rt, problem, nest, &loads, regions),
         Asked::Walks => show_walks(rt, problem, nest, &loads),
+        Asked::Prices(facts) => show_prices(rt, problem, nest, &loads, facts),
     }
 }
 

@@ -22,6 +22,10 @@
 //! the nodes 1 and 2 are a loop. The greatest walk enters it once, with the load 100, makes ten iterations and leaves it for the
 //! exit: 2 + 100 + 10 * (3 + 4) + 3 + 1 = 176.
 //!
+//! The rows of `prices` have the fields of `longest` and facts: `2<=3` says that node 2 is visited at most three times,
+//! and `2<=3/0` that it is from each entry of loop 0 to the next. What is printed is the greatest walk's value without
+//! prices of the facts, and with those that are found. Their values were worked out by hand.
+//!
 //! A section behind `check` goes through both checks, with an index of the section's loops and without, and where they
 //! differ, that is printed; behind `index` it goes through the first alone. `bench/graphs.py` gives rows of large graphs.
 //!
@@ -32,6 +36,7 @@
 #![tactic(auto)]
 
 mod found;
+mod prices;
 mod question;
 mod show;
 mod walks;
@@ -52,6 +57,7 @@ fn answer(rt: &HostRuntime, question: &Question) -> io::Result<()> {
         Question::Longest(problem) => show_found(rt, problem, Asked::Section),
         Question::Regions(problem, regions) => show_found(rt, problem, Asked::Regions(regions)),
         Question::Walks(problem) => show_found(rt, problem, Asked::Walks),
+        Question::Prices(problem, facts) => show_found(rt, problem, Asked::Prices(facts)),
         Question::Check(problem, section, both) => show_check(rt, problem, section, *both),
         Question::Chain(nodes) => show_chain(rt, *nodes),
     }

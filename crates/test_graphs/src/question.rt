@@ -2,6 +2,7 @@
 
 use loop_nest::{Graph, is_graph};
 use path_solver::section::{CertLoop, Section};
+use price_search::VisitFact;
 use std::alloc::Global;
 use std::num::ParseIntError;
 use std::str::FromStr;
@@ -34,6 +35,8 @@ pub enum Question {
     Regions(Problem, Vec<bool>),
     /// The greatest walk, found in several ways.
     Walks(Problem),
+    /// The greatest walk with prices of facts.
+    Prices(Problem, Vec<VisitFact>),
     /// The check of a section with an index of its loops, and whether the check without an index is asked, too.
     Check(Problem, Section, bool),
     /// So many nodes, one after another.
@@ -173,6 +176,33 @@ fn regions(alloc: Global, fields: &[&str]) -> Result<Question, RowFault> {
     Ok(Question::Regions(problem, flags(alloc, fields[6])?))
 }
 
+/// A fact such as `2<=3`, or `2<=3/0` for visits from each entry of loop 0 to the next.
+fn fact(word: &str) -> Result<VisitFact, RowFault> {
+    let (node, rest) = word.split_once("<=").ok_or(RowFault::Malformed)?;
+    let node = node.parse()?;
+    match rest.split_once('/') {
+        Some((most, number)) => Ok(VisitFact {
+            node,
+            most: most.parse()?,
+            loop_number: Some(number.parse()?),
+        }),
+        None => Ok(VisitFact {
+            node,
+            most: rest.parse()?,
+            loop_number: None,
+        }),
+    }
+}
+
+/// A problem and its facts.
+fn prices(alloc: Global, fields: &[&str]) -> Result<Question, RowFault> {
+    if fields.len() != 7 {
+        return Err(RowFault::Malformed);
+    }
+    let facts: Vec<VisitFact> = fields[6].split_whitespace().map(fact).try_collect(alloc)?;
+    Ok(Question::Prices(read_problem(alloc, &fields[..6])?, facts))
+}
+
 /// A problem and a section, and whether both checks are asked.
 fn check(alloc: Global, fields: &[&str], both: bool) -> Result<Question, RowFault> {
     if fields.len() != 9 {
@@ -204,6 +234,7 @@ impl Question {
             "longest" => read_problem(alloc, rest).map(Question::Longest),
             "walks" => read_problem(alloc, rest).map(Question::Walks),
             "regions" => regions(alloc, rest),
+            "prices" => prices(alloc, rest),
             "check" => check(alloc, rest, true),
             "index" => check(alloc, rest, false),
             "chain" => chain(rest),
