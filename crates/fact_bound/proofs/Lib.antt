@@ -1,2 +1,4 @@
 mod Callers
+mod InText
+mod Tables
 mod Unpricing

@@ -1,1 +1,3 @@
 pub mod Plain
+pub mod Grammar
+pub mod Search

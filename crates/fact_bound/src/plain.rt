@@ -32,7 +32,12 @@ fn lessened(bound: Option<u64>, cycles: u64) -> Option<u64>
 }
 
 /// The last line for the root where the greatest load of a method that may call it stands for that of any method.
-fn with_callers_load(f: &FlowProgram, t: Timing, root: u32, bound: Option<u64>) -> Option<u64>
+pub(crate) fn with_callers_load(
+    f: &FlowProgram,
+    t: Timing,
+    root: u32,
+    bound: Option<u64>,
+) -> Option<u64>
     requires { t.read ≤ 63 }
     ensures right { (P : Program) (full : Option ℕ) → IsFlowOf P f.now → IsRight P t full bound → IsPricedRight P t root 0 full result }
     ensures at_most { IsAtMost result bound }
