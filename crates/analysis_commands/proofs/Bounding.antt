@@ -1,6 +1,6 @@
 -- What is answered of a method that is asked for, by the table of a program, holds of the program.
 use Rattle.std.proofs.Common.{◌≡◌, ℕ, ◌<◌, List, length, Option, Some, refl, sym, ◌∙◌, ap, subst}
-use Rattle.std.specs.Prelude.{IsSome, IsSomeAnd, slice_get, Result, Ok, Err, IfOk, IfErr, Vec}
+use Rattle.std.specs.Prelude.{◌≢◌, All, IsSome, IsSomeAnd, slice_get, Result, Ok, Err, IfOk, IfErr, Vec}
 use Rattle.std.specs.declared.alloc.Global.{Global}
 use Rattle.std.proofs.Math.Path.{fun_ext}
 use Rattle.std.proofs.lemmas.Bool.{true≢false}
@@ -13,6 +13,7 @@ use Rattle.method_flow.specs.declared.timing.Timing.{Timing}
 use Rattle.method_flow.specs.Flow.{Coded, Flow, IsFlowOf}
 use Rattle.method_flow.specs.Keeping.{BoundOf}
 use Rattle.node_costs.specs.Costs as table
+use Rattle.certificates.specs.declared.lines.line.SectionKind.TheVariants.{Alone}
 use Rattle.certificates.specs.Certificate.{Certificate, IsInGrammar}
 use Rattle.bound_rules.specs.Conditions.{MeetsConditions}
 use Rattle.bound_rules.specs.Numbers.{IsPrinted}
@@ -22,6 +23,7 @@ use Rattle.bound_rules.specs.Bounding.{IsAsked, HasNoRecursion, AreReducible, Ha
 use Rattle.bound_causes.specs.declared.causes.Asked.{Asked}
 use Rattle.bound_causes.specs.Naming.{IsNamedBy}
 use Rattle.bound_causes.specs.Causes.{IsRootCause}
+use Rattle.bound_finder.specs.Certified.{AreEmptyIfEndless}
 use Rattle.bound_finder.specs.Ready.{IsSizeCause}
 use Rattle.answer_lines.specs.declared.bound.BoundCause.{BoundCause}
 use Rattle.analysis_commands.specs.declared.analysis.Analysis.{Analysis}
@@ -54,11 +56,14 @@ certified a named found (Ok c) is h =
 -- the certificate of a method for which all is ready
 pub certified_for : (a : Analysis) (root : ℕ) (r : Result Certificate BoundRefusal) → IfOk r (λ c. IsInGrammar c × (c.version ≡ 2) × (c.root ≡ root))
     → IfOk r (λ c. (P : Program) → IsFlowOf P a.flow → MeetsConditions P a.timing (table.bounds_of a.flow a.bounds) c)
+    → IfOk r (λ c. All (λ s. s.kind ≢ Alone) c.sections)
+    → IfOk r (λ c. (P : Program) → IsFlowOf P a.flow → AreEmptyIfEndless P c.sections)
     → IfOk r (λ c. (P : Program) → IsFlowOf P a.flow → IsPrinted P a.timing (table.bounds_of a.flow a.bounds) root c.bound)
     → IfOk r (λ _. (P : Program) → IsFlowOf P a.flow → KeepSize P a.timing (table.bounds_of a.flow a.bounds) root)
     → IfOk r (IsCertificateFor a root)
-certified_for a root (Err refusal) grammar meets printed kept = tt
-certified_for a root (Ok c) grammar meets printed kept = record { version = grammar.1; root_is = grammar.2; meets = meets; printed = printed; kept = kept }
+certified_for a root (Err refusal) grammar meets kinds empty printed kept = tt
+certified_for a root (Ok c) grammar meets kinds empty printed kept =
+    record { version = grammar.1; root_is = grammar.2; meets = meets; kinds = kinds; empty = empty; printed = printed; kept = kept }
 
 size_cause : (P : Program) (t : Timing) (b : BoundOf) (asked : ℕ → Type 0) (root : ℕ) (e : BoundRefusal) → IsAsked P asked root → HasNoRecursion P root → AreReducible P root → HaveLines P b root → IsSizeCause P t b root e
     → IsCause P t b asked e
@@ -160,7 +165,7 @@ module _ (cs : List ClassFile) (s : Settings) (bounds_text : List ℕ) (a : Anal
         bound_is = h.bound_is;
       }
 
-  forbidden : (cause : BoundCause) (subject : List ℕ) → IsForbiddenBy a name cause subject → IsForbidden cs s bounds_text name cause subject
+  pub forbidden : (cause : BoundCause) (subject : List ℕ) → IsForbiddenBy a name cause subject → IsForbidden cs s bounds_text name cause subject
   forbidden cause subject h =
       let by_table = cause_out cs a.flow is.flow is.names name a.timing (table.bounds_of a.flow a.bounds) h.refusal (h.is (resolved cs) is.flow) in
       record {
@@ -173,7 +178,7 @@ module _ (cs : List ClassFile) (s : Settings) (bounds_text : List ℕ) (a : Anal
         subject_is = h.subject_is ∙ ap (λ (n : ℕ → List ℕ). subject_of n h.refusal) (fun_ext (named cs a.flow is.flow is.names));
       }
 
-  not_bounded : (r : NotBounded) → IsNotBoundedBy a name r → IsNotBounded cs s bounds_text name r
+  pub not_bounded : (r : NotBounded) → IsNotBoundedBy a name r → IsNotBounded cs s bounds_text name r
   not_bounded (refusals.NoAnalysis fault) h = absurd h
   not_bounded (refusals.Forbidden cause subject) h = forbidden cause subject.items h
   not_bounded refusals.NoMemory h = tt

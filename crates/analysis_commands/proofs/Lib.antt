@@ -5,3 +5,6 @@ pub mod LoopLines
 pub mod FurtherLines
 pub mod Needs
 pub mod Texts
+pub mod FactLines
+pub mod PricedBounding
+pub mod PricedChecking

@@ -154,7 +154,7 @@ module _ (cs : List ClassFile) (s : Settings) (bounds_text : List ℕ) (a : Anal
   pub moved : (Q : Timing → BoundOf → Type 0) → Q a.timing (table.bounds_of a.flow a.bounds) → Q (timing_of s) (bounds_of cs a.bounds)
   moved Q h = subst (λ (t : Timing). Q t (bounds_of cs a.bounds)) is.timing (subst (λ (b : BoundOf). Q a.timing b) same_bounds h)
 
-  held : (cert_text : List ℕ) (h : Held) → IsHeldInText a cert_text h → IsHeld cs s bounds_text cert_text h
+  pub held : (cert_text : List ℕ) (h : Held) → IsHeldInText a cert_text h → IsHeld cs s bounds_text cert_text h
   held cert_text h t =
       let c = t.certificate in
       let meets : MeetsConditions (resolved cs) (timing_of s) (bounds_of cs a.bounds) c = moved (λ t b. MeetsConditions (resolved cs) t b c) (t.held.meets (resolved cs) is.flow) in
@@ -190,7 +190,7 @@ module _ (cs : List ClassFile) (s : Settings) (bounds_text : List ℕ) (a : Anal
       )
   fails cert_text check.NoMemory h = tt
 
-  refused : (cert_text : List ℕ) (r : CheckRefusal) → IsRefusedInText a cert_text r → IsCheckRefusal cs s bounds_text cert_text r
+  pub refused : (cert_text : List ℕ) (r : CheckRefusal) → IsRefusedInText a cert_text r → IsCheckRefusal cs s bounds_text cert_text r
   refused cert_text r h = ⊎_elim (text_refused cert_text r) (fails cert_text r) h
 
 pub held_ok : (cs : List ClassFile) (s : Settings) (bounds_text cert_text : List ℕ) (a : Analysis) (r : Result Held CheckRefusal) → IsAnalysisOf cs s bounds_text a → IfOk r (IsHeldInText a cert_text) → IfOk r (IsHeld cs s bounds_text cert_text)

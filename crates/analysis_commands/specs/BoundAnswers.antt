@@ -1,9 +1,10 @@
 -- What is answered of a method that is asked for by its name or its number, by the table of a program.
-use Rattle.std.specs.Prelude.{◌≡◌, ℕ, List, Option, Some}
+use Rattle.std.specs.Prelude.{◌≡◌, ◌≢◌, ℕ, List, All, Option, Some}
 use Rattle.ascii_text.specs.Line.{lines_of as text_lines}
 use Rattle.bytecode_model.specs.Program.{Program}
 use Rattle.method_flow.specs.Flow.{IsFlowOf}
 use Rattle.node_costs.specs.Costs.{bounds_of}
+use Rattle.certificates.specs.declared.lines.line.SectionKind.TheVariants.{Alone}
 use Rattle.certificates.specs.Certificate.{Certificate}
 use Rattle.certificates.specs.Texts.{AreLinesOf, text_of}
 use Rattle.bound_rules.specs.declared.faults.BoundRefusal.{BoundRefusal}
@@ -13,6 +14,7 @@ use Rattle.bound_rules.specs.Numbers.{IsPrinted}
 use Rattle.bound_causes.specs.declared.causes.Asked.{Asked}
 use Rattle.bound_causes.specs.Naming.{IsNamedBy}
 use Rattle.bound_causes.specs.Ready.{IsReady, AreInTable}
+use Rattle.bound_finder.specs.Certified.{AreEmptyIfEndless}
 use Rattle.bound_finder.specs.Ready.{IsSizeCause}
 use Rattle.answer_lines.specs.declared.bound.BoundCause.{BoundCause}
 use Rattle.analysis_commands.specs.declared.analysis.Analysis.{Analysis}
@@ -46,11 +48,14 @@ pub record IsReadyOf (a : Analysis) (found : Asked) : Type 0 where
   pub ready : (P : Program) → IsFlowOf P a.flow → IsReady P (bounds_of a.flow a.bounds) found
   pub known : AreInTable a.flow found
 
--- the certificate is of the method of this number, whose size forbids none, in each program of the table
+-- The certificate is of the method of this number, whose size forbids none, in each program of the table. It has no sections of the kind alone, and
+-- those of methods that can't end list no node.
 pub record IsCertificateFor (a : Analysis) (root : ℕ) (c : Certificate) : Type 0 where
   pub version : c.version ≡ 2
   pub root_is : c.root ≡ root
   pub meets : (P : Program) → IsFlowOf P a.flow → MeetsConditions P a.timing (bounds_of a.flow a.bounds) c
+  pub kinds : All (λ s. s.kind ≢ Alone) c.sections
+  pub empty : (P : Program) → IsFlowOf P a.flow → AreEmptyIfEndless P c.sections
   pub printed : (P : Program) → IsFlowOf P a.flow → IsPrinted P a.timing (bounds_of a.flow a.bounds) root c.bound
   pub kept : (P : Program) → IsFlowOf P a.flow → KeepSize P a.timing (bounds_of a.flow a.bounds) root
 

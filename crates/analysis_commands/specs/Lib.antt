@@ -7,3 +7,6 @@ pub mod Loops
 pub mod Memory
 pub mod Executive
 pub mod ExecutiveAnswers
+pub mod Facts
+pub mod PricedBounds
+pub mod PricedChecks

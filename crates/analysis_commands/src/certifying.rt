@@ -37,7 +37,7 @@ fn asked_by_number(alloc: Global, analysis: &Analysis, method: u32) -> Result<As
 }
 
 /// The certificate of a method for which all is ready.
-fn certificate_of_asked(
+pub(crate) fn certificate_of_asked(
     alloc: Global,
     analysis: &Analysis,
     found: &Asked,

@@ -43,7 +43,11 @@ fn certificate_in(alloc: Global, text: &[u8]) -> Result<Cert, CheckRefusal>
 }
 
 /// Checks the certificate that a text gives.
-fn check_text(alloc: Global, analysis: &Analysis, text: &[u8]) -> Result<Held, CheckRefusal>
+pub(crate) fn check_text(
+    alloc: Global,
+    analysis: &Analysis,
+    text: &[u8],
+) -> Result<Held, CheckRefusal>
     requires waits { (analysis.now.timing.read ≤ 63) × (analysis.now.timing.write ≤ 63) }
     requires sizes { 0 < analysis.now.timing.block_words }
     ensures held { IfOk result (IsHeldInText analysis.now text.now) }
@@ -79,7 +83,7 @@ pub fn check_program(
 }
 
 /// The method of the first section, or else the root.
-fn first_method(certificate: &Cert) -> u32
+pub(crate) fn first_method(certificate: &Cert) -> u32
     ensures { result ≡ first_method certificate.now }
 {
     match certificate.sections() {
@@ -89,7 +93,7 @@ fn first_method(certificate: &Cert) -> u32
 }
 
 /// The refusal of the certificate of a text where the program lacks all code.
-fn missing(alloc: Global, text: &[u8]) -> CheckRefusal
+pub(crate) fn missing(alloc: Global, text: &[u8]) -> CheckRefusal
     ensures { IsBareTextRefusal text.now result }
 {
     match certificate_in(alloc, text) {

@@ -16,7 +16,7 @@ use certificates::Cert;
 use std::alloc::Global;
 
 /// The method that a fault speaks of.
-fn method_of(fault: CheckFault) -> Option<u32>
+pub(crate) fn method_of(fault: CheckFault) -> Option<u32>
     ensures { result ≡ method_of fault }
 {
     match fault {

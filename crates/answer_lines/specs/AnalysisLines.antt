@@ -33,6 +33,17 @@ bad_lines_parts line = codes "bad lines line=" ∷ decimal line ∷ codes "\n" �
 abbrev pub twice_lines_parts : (line : ℕ) → List (List ℕ)
 twice_lines_parts line = codes "twice lines line=" ∷ decimal line ∷ codes "\n" ∷ []
 
+-- and so of facts
+abbrev pub bad_facts_parts : (line : ℕ) → List (List ℕ)
+bad_facts_parts line = codes "bad facts line=" ∷ decimal line ∷ codes "\n" ∷ []
+
+abbrev pub twice_fact_parts : (line : ℕ) → List (List ℕ)
+twice_fact_parts line = codes "twice fact line=" ∷ decimal line ∷ codes "\n" ∷ []
+
+-- a line of facts says nothing of the program
+abbrev pub no_fact_parts : (line : ℕ) → List (List ℕ)
+no_fact_parts line = codes "no such fact line=" ∷ decimal line ∷ codes "\n" ∷ []
+
 -- a line of the table of slots is none of its grammar
 abbrev pub bad_table_parts : (line : ℕ) → List (List ℕ)
 bad_table_parts line = codes "bad table line=" ∷ decimal line ∷ codes "\n" ∷ []
@@ -53,6 +64,10 @@ fault_parts (Edge m u v) name = codes "check: edge " ∷ name ∷ codes " " ∷ 
 fault_parts (Exit m u) name = codes "check: exit " ∷ name ∷ codes " " ∷ node_text u ∷ codes "\n" ∷ []
 fault_parts (Region m) name = codes "check: region " ∷ name ∷ codes "\n" ∷ []
 fault_parts NoMemory name = []
+
+-- no fact is given of the price at this node of the method of the name
+abbrev pub price_parts : (name : List ℕ) → (node : ℕ) → List (List ℕ)
+price_parts name u = codes "check: price " ∷ name ∷ codes " " ∷ node_text u ∷ codes "\n" ∷ []
 
 -- why no bound of a method is given, with what the line names: the methods of a cycle, or a method, with the places of its nodes where it is irreducible
 abbrev pub cause_tail : BoundCause → (subject : List ℕ) → List (List ℕ)

@@ -4,7 +4,7 @@ ghost use Rattle.std.specs.List.{concat};
 ghost use Rattle.outside.specs.Outside.{HasCause};
 ghost use Rattle.answer_lines.specs.Said.{Said};
 ghost use Rattle.certificates.specs.CertLines.{node_text};
-ghost use Rattle.answer_lines.specs.AnalysisLines.{held_parts, fault_parts};
+ghost use Rattle.answer_lines.specs.AnalysisLines.{held_parts, fault_parts, price_parts};
 
 use crate::{Piece, say_pieces};
 use bound_rules::CheckFault;
@@ -45,6 +45,14 @@ pub fn say_fault<O: Sink>(sink: &mut O, fault: CheckFault, name: &[u8]) -> Resul
         CheckFault::Region(_) => say_method(sink, b"check: region ", name),
         CheckFault::NoMemory => Ok(()),
     }
+}
+
+/// Puts the line of the first price of which no fact is given, at a node of the method of this name.
+pub fn say_price_fault<O: Sink>(sink: &mut O, name: &[u8], node: u32) -> Result<(), Failed>
+    ensures said { Said false (concat (price_parts name.now node)) (O.held sink.old) (O.held sink.new) (O.faults sink.old) (O.faults sink.new) result }
+    ensures cause { HasCause (O.faults sink.old) (O.faults sink.new) result }
+{
+    say_node(sink, b"check: price ", name, node)
 }
 
 /// Puts a label and the name of a method.

@@ -21,7 +21,7 @@ mod unanswered;
 
 pub use analysis::{AnalysisFault, Held};
 pub use bound::BoundCause;
-pub use check::{say_fault, say_held};
+pub use check::{say_fault, say_held, say_price_fault};
 pub use line::{AsmLine, Counts, Line, LinkLine, Named, Place, Sizes, SlotCounts};
 pub use loop_line::put_loop_line;
 pub use memory::memory_line;
@@ -30,7 +30,7 @@ pub use plan::PlanCause;
 pub use put::{put_line, say, say_pieces};
 pub use summary::work_line;
 pub use texts::{
-    say_bad_bounds, say_bad_cert, say_bad_lines, say_bad_sizes, say_bad_table, say_slot_count,
-    say_twice_bound, say_twice_lines, say_twice_size,
+    say_bad_bounds, say_bad_cert, say_bad_facts, say_bad_lines, say_bad_sizes, say_bad_table,
+    say_no_fact, say_slot_count, say_twice_bound, say_twice_fact, say_twice_lines, say_twice_size,
 };
 pub use unanswered::{Cause, say_unanswered};

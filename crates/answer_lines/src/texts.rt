@@ -4,7 +4,8 @@ ghost use Rattle.std.specs.List.{concat};
 ghost use Rattle.outside.specs.Outside.{HasCause};
 ghost use Rattle.answer_lines.specs.Said.{Said};
 ghost use Rattle.answer_lines.specs.AnalysisLines.{bad_bounds_parts, twice_bound_parts, bad_sizes_parts, twice_size_parts, bad_cert_parts};
-ghost use Rattle.answer_lines.specs.AnalysisLines.{bad_lines_parts, twice_lines_parts, bad_table_parts, slot_count_parts};
+ghost use Rattle.answer_lines.specs.AnalysisLines.{bad_lines_parts, twice_lines_parts, bad_facts_parts, twice_fact_parts, no_fact_parts, bad_table_parts};
+ghost use Rattle.answer_lines.specs.AnalysisLines.{slot_count_parts};
 
 use crate::{Piece, say_pieces};
 use outside::{Failed, Sink};
@@ -71,6 +72,30 @@ pub fn say_twice_lines<O: Sink>(sink: &mut O, line: u32) -> Result<(), Failed>
     ensures cause { HasCause (O.faults sink.old) (O.faults sink.new) result }
 {
     say_number(sink, b"twice lines line=", line as u64)
+}
+
+/// Puts the line of the first line of facts that is none of their grammar.
+pub fn say_bad_facts<O: Sink>(sink: &mut O, line: u32) -> Result<(), Failed>
+    ensures said { Said false (concat (bad_facts_parts line)) (O.held sink.old) (O.held sink.new) (O.faults sink.old) (O.faults sink.new) result }
+    ensures cause { HasCause (O.faults sink.old) (O.faults sink.new) result }
+{
+    say_number(sink, b"bad facts line=", line as u64)
+}
+
+/// Puts the line of the first line of facts that says something once more.
+pub fn say_twice_fact<O: Sink>(sink: &mut O, line: u32) -> Result<(), Failed>
+    ensures said { Said false (concat (twice_fact_parts line)) (O.held sink.old) (O.held sink.new) (O.faults sink.old) (O.faults sink.new) result }
+    ensures cause { HasCause (O.faults sink.old) (O.faults sink.new) result }
+{
+    say_number(sink, b"twice fact line=", line as u64)
+}
+
+/// Puts the line of the first line of facts that says nothing of the program.
+pub fn say_no_fact<O: Sink>(sink: &mut O, line: u32) -> Result<(), Failed>
+    ensures said { Said false (concat (no_fact_parts line)) (O.held sink.old) (O.held sink.new) (O.faults sink.old) (O.faults sink.new) result }
+    ensures cause { HasCause (O.faults sink.old) (O.faults sink.new) result }
+{
+    say_number(sink, b"no such fact line=", line as u64)
 }
 
 /// Puts the line of the first line of a table of slots that is none of its grammar.

@@ -5,3 +5,4 @@ pub mod Reported
 pub mod Shown
 pub mod LoopAnswers
 pub mod Shaping
+pub mod ShownWith

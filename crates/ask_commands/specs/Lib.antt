@@ -7,3 +7,5 @@ pub mod Reporting
 pub mod AllBounds
 pub mod Asking
 pub mod Shapes
+pub mod Pricing
+pub mod PricedFiles

@@ -14,7 +14,7 @@ use jopizer::Linked;
 use std::alloc::Global;
 
 /// The ending that says why nothing is held.
-fn refusal_ending(settings: &Settings, refusal: CheckRefusal) -> Ending
+pub(crate) fn refusal_ending(settings: &Settings, refusal: CheckRefusal) -> Ending
     ensures { result ≡ refusal_ending settings.now refusal }
 {
     match refusal {

@@ -8,5 +8,7 @@ pub mod bounding;
 pub mod checking;
 pub mod headers;
 pub mod needs;
+pub mod priced_files;
+pub mod pricing;
 pub mod reporting;
 pub mod shapes;

@@ -17,16 +17,16 @@ use std::alloc::Global;
 
 /// A shape of the method cache.
 #[derive(Clone, Copy)]
-pub(crate) struct Shape {
+pub struct Shape {
     /// Its blocks.
-    pub(crate) blocks: u32,
+    pub blocks: u32,
     /// The words of a block.
-    pub(crate) block_words: u32,
+    pub block_words: u32,
 }
 
 /// What is found of a method in a shape.
 #[derive(Clone, Copy)]
-pub(crate) enum ShapeBound {
+pub enum ShapeBound {
     /// Its bound in cycles, or `None` where it never ends.
     Number(Option<u64>),
     /// The code of some method doesn't fit.

@@ -9,7 +9,7 @@ use Rattle.std.specs.Borrow.{Bor}
 use Rattle.command_line.specs.declared.table.Verb.{Verb}
 use Rattle.command_line.specs.declared.table.Verb.TheVariants.{Link, Run, Trace, Profile, Bound, Report, Plan, Cycle, Check, Loops, Headers, Need, Asm, Work}
 use Rattle.command_line.specs.declared.table.Name.{Name}
-use Rattle.command_line.specs.declared.table.Name.TheVariants.{Main, Method, All, Shapes, Cycles, Stack, Memory, Blocks, BlockWords, Read, Write, Micro, Rounds, Further}
+use Rattle.command_line.specs.declared.table.Name.TheVariants.{Main, Method, All, Shapes, Cycles, Stack, Memory, Blocks, BlockWords, Read, Write, Micro, Rounds, Further, Facts}
 use Rattle.command_line.specs.declared.command.Command.{Command}
 use Rattle.command_line.specs.declared.command.Command.TheVariants as commands
 use Rattle.command_line.specs.Table.{name_word, usual, OptionValue, Nothing, AWord, ANumber, OneOf, value_of_name, operands_of}
@@ -78,6 +78,7 @@ none_kept n Write m h = absurd (cc)
 none_kept n Micro m h = absurd (cc)
 none_kept n Rounds m h = absurd (cc)
 none_kept n Further m h = absurd (cc)
+none_kept n Facts m h = absurd (cc)
 
 -- what an option means, given or not
 meant : (o : Option ℕ) (d : ℕ) (P : ℕ → Type 0) → P d → ((m : ℕ) → o ≡ Some m → P m) → P (unwrap_or o d)
@@ -122,11 +123,32 @@ given_one (Some m) d P required some = some m refl
 rounds_are : (values : List (Option ℕ)) (n : ℕ) → AreKept values n → (is_some (given values Rounds) || false) && true ≡ true → (1 ≤ value values Rounds) × (value values Rounds ≤ 32767)
 rounds_are values n kept required = given_one (given values Rounds) (usual Rounds) (λ m. (1 ≤ m) × (m ≤ 32767)) required (kept Rounds)
 
--- the bounds of all methods, or the bound of one, in each shape or in one
-bound_by : (P : Command → Type 0) (all shapes : Bool) (every each one : Command) → P every → P each → P one → P (if all then every else if shapes then each else one)
-bound_by P true shapes every each one is_every is_each is_one = is_every
-bound_by P false true every each one is_every is_each is_one = is_each
-bound_by P false false every each one is_every is_each is_one = is_one
+-- one of two commands, by whether an option was given
+either : (P : Command → Type 0) (given : Bool) (one other : Command) → P one → P other → P (if given then one else other)
+either P true one other is_one is_other = is_one
+either P false one other is_one is_other = is_other
+
+-- the bounds of all methods, or the bound of one: in each shape, by facts, or without
+bound_by : (P : Command → Type 0) (values : List (Option ℕ)) (k : ℕ) → P (commands.BoundAll (settings_of values) k (k + 1))
+    → P (commands.BoundShapes (settings_of values) (value values Method) k (k + 1))
+    → P (commands.BoundWith (settings_of values) (value values Method) (value values Facts) k (k + 1))
+    → P (commands.Bound (settings_of values) (value values Method) k (k + 1)) → P (made Bound values k 0)
+bound_by P values k all shapes facts alone =
+    let s = settings_of values in
+    let m = value values Method in
+    let by = commands.BoundWith s m (value values Facts) k (k + 1) in
+    let one = if is_some (given values Facts) then by else commands.Bound s m k (k + 1) in
+    let each = commands.BoundShapes s m k (k + 1) in
+    either P (is_some (given values All)) (commands.BoundAll s k (k + 1)) (if is_some (given values Shapes) then each else one) all
+    (either P (is_some (given values Shapes)) each one shapes (either P (is_some (given values Facts)) by (commands.Bound s m k (k + 1)) facts alone))
+
+-- the check of a certificate, by facts or without
+check_by : (P : Command → Type 0) (values : List (Option ℕ)) (k : ℕ)
+    → P (commands.CheckWith (settings_of values) (value values Facts) k (k + 1) (k + 2)) → P (commands.Check (settings_of values) k (k + 1) (k + 2))
+    → P (made Check values k 0)
+check_by P values k facts alone =
+    let s = settings_of values in
+    either P (is_some (given values Facts)) (commands.CheckWith s (value values Facts) k (k + 1) (k + 2)) (commands.Check s k (k + 1) (k + 2)) facts alone
 
 made_in_range : (verb : Verb) (values : List (Option ℕ)) (k m n : ℕ) (operands : List (List ℕ)) → AreKept values n → has_required verb values ≡ true → AreOperands (operands_of verb) operands m → HasNumbersInRange (made verb values k m)
 made_in_range Link values k m n operands kept required are = tt
@@ -135,12 +157,11 @@ made_in_range Trace values k m n operands kept required are = settings_are value
 made_in_range Profile values k m n operands kept required are = settings_are values n kept
 made_in_range Bound values k m n operands kept required are =
     let settings = settings_are values n kept in
-    bound_by HasNumbersInRange (is_some (given values All)) (is_some (given values Shapes)) (commands.BoundAll (settings_of values) k (k + 1)) (commands.BoundShapes (settings_of values) (value values Method) k (k + 1))
-    (commands.Bound (settings_of values) (value values Method) k (k + 1)) settings settings settings
+    bound_by HasNumbersInRange values k settings settings settings settings
 made_in_range Report values k m n operands kept required are = settings_are values n kept
 made_in_range Plan values k m n operands kept required are = let rounds = rounds_are values n kept required in (settings_are values n kept, rounds.0, rounds.1)
 made_in_range Cycle values k m n operands kept required are = let rounds = rounds_are values n kept required in (settings_are values n kept, rounds.0, rounds.1)
-made_in_range Check values k m n operands kept required are = settings_are values n kept
+made_in_range Check values k m n operands kept required are = let settings = settings_are values n kept in check_by HasNumbersInRange values k settings settings
 made_in_range Loops values k m n operands kept required are = tt
 made_in_range Headers values k m n operands kept required are = let some = are.0 in let few = are.1 in let is = are.3 in (omega (arith, some, is), omega (arith, few, is))
 made_in_range Need values k m n operands kept required are = tt
@@ -162,8 +183,8 @@ made_there Bound values k m n operands all kept are =
     let below : k + 1 < n = omega (arith, all, many) in
     let first : k < n = omega (arith, below) in
     let named = named_there values Method n refl refl (omega (arith, below)) kept in
-    bound_by (AreThere n) (is_some (given values All)) (is_some (given values Shapes)) (commands.BoundAll (settings_of values) k (k + 1)) (commands.BoundShapes (settings_of values) (value values Method) k (k + 1))
-    (commands.Bound (settings_of values) (value values Method) k (k + 1)) (first, below) (named, first, below) (named, first, below)
+    let facts = named_there values Facts n refl refl (omega (arith, below)) kept in
+    bound_by (AreThere n) values k (first, below) (named, first, below) (named, facts, first, below) (named, first, below)
 made_there Report values k m n operands all kept are =
     let many = are.0 in
     let below : k + 1 < n = omega (arith, all, many) in
@@ -176,7 +197,11 @@ made_there Cycle values k m n operands all kept are =
     (omega (arith, all, many), omega (arith, all, many))
 made_there Check values k m n operands all kept are =
     let many = are.0 in
-    (omega (arith, all, many), omega (arith, all, many), omega (arith, all, many))
+    let below : k + 2 < n = omega (arith, all, many) in
+    let first : k < n = omega (arith, below) in
+    let second : k + 1 < n = omega (arith, below) in
+    let facts = named_there values Facts n refl refl (omega (arith, below)) kept in
+    check_by (AreThere n) values k (facts, first, second, below) (first, second, below)
 made_there Loops values k m n operands all kept are = let many = are.0 in omega (arith, all, many)
 made_there Headers values k m n operands all kept are = let is = are.3 in omega (arith, all, is)
 made_there Need values k m n operands all kept are =
@@ -191,12 +216,11 @@ made_follow Run values k m = tt
 made_follow Trace values k m = tt
 made_follow Profile values k m = refl
 made_follow Bound values k m =
-    bound_by OperandsFollow (is_some (given values All)) (is_some (given values Shapes)) (commands.BoundAll (settings_of values) k (k + 1)) (commands.BoundShapes (settings_of values) (value values Method) k (k + 1))
-    (commands.Bound (settings_of values) (value values Method) k (k + 1)) refl refl refl
+    bound_by OperandsFollow values k refl refl refl refl
 made_follow Report values k m = refl
 made_follow Plan values k m = (refl, refl)
 made_follow Cycle values k m = refl
-made_follow Check values k m = (refl, refl)
+made_follow Check values k m = check_by OperandsFollow values k (refl, refl) (refl, refl)
 made_follow Loops values k m = tt
 made_follow Headers values k m = tt
 made_follow Need values k m = (refl, refl)

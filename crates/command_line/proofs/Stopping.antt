@@ -9,7 +9,7 @@ use Rattle.std.proofs.lemmas.Bool.Decides.{nat_tests}
 use Rattle.command_line.specs.declared.table.Verb.{Verb}
 use Rattle.command_line.specs.declared.table.Verb.TheVariants.{Link, Run, Trace, Profile, Bound, Report, Plan, Cycle, Check, Loops, Headers, Need, Asm, Work}
 use Rattle.command_line.specs.declared.table.Name.{Name}
-use Rattle.command_line.specs.declared.table.Name.TheVariants.{Main, Method, All, Shapes, Cycles, Stack, Memory, Blocks, BlockWords, Read, Write, Micro, Rounds, Further}
+use Rattle.command_line.specs.declared.table.Name.TheVariants.{Main, Method, All, Shapes, Cycles, Stack, Memory, Blocks, BlockWords, Read, Write, Micro, Rounds, Further, Facts}
 use Rattle.command_line.specs.declared.command.Command.{Command}
 use Rattle.command_line.specs.Table.{name_word, rivals, names_of, verb_named, name_of, value_of_name, OperandCount, Exactly, AtMost, AtLeast, Number, operands_of}
 use Rattle.command_line.specs.Command.{is_option, given, with_value, none_given, is_taken, has_required, is_flag, meaning, made, exactly_at, at_most_at, at_least_at, past_number, number_from, operands_stop, operand_number, unless_stopped, words_at, command_of}
@@ -215,6 +215,7 @@ any_value Write k h = (codes "1", 1, refl)
 any_value Micro k h = absurd (cc)
 any_value Rounds k h = (codes "1", 1, refl)
 any_value Further k h = absurd (cc)
+any_value Facts k h = (codes "A", k, refl)
 
 and_false : (b : Bool) → (b && true) ≡ false → b ≡ false
 and_false true h = h

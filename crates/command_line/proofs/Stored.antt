@@ -10,7 +10,7 @@ use Rattle.std.proofs.lemmas.Slice.Eq.{bytes_eq-Decides}
 use Rattle.command_line.specs.declared.table.Verb.{Verb}
 use Rattle.command_line.specs.declared.table.Verb.TheVariants.{Link, Run, Trace, Profile, Bound, Report, Plan, Cycle, Check, Loops, Headers, Need, Asm, Work}
 use Rattle.command_line.specs.declared.table.Name.{Name}
-use Rattle.command_line.specs.declared.table.Name.TheVariants.{Main, Method, All, Shapes, Cycles, Stack, Memory, Blocks, BlockWords, Read, Write, Micro, Rounds, Further}
+use Rattle.command_line.specs.declared.table.Name.TheVariants.{Main, Method, All, Shapes, Cycles, Stack, Memory, Blocks, BlockWords, Read, Write, Micro, Rounds, Further, Facts}
 use Rattle.command_line.specs.Table.{name_word, all_names, place_of, same_name, rivals, names_of, verb_word, all_verbs, verb_named, name_named, has_name, kept_by, name_of}
 use Rattle.command_line.specs.Command.{is_option, none_given, given, with_value, is_taken}
 use Rattle.command_line.proofs.WordLemmas.{if_true}
@@ -32,11 +32,12 @@ name_at Write = refl
 name_at Micro = refl
 name_at Rounds = refl
 name_at Further = refl
+name_at Facts = refl
 
 same_place : (a b : Name) → place_of a ≡ place_of b → a ≡ b
 same_place a b e = sym (name_at a) ∙ ap (λ i. get_or all_names i Main) e ∙ name_at b
 
-place_below : (a : Name) → place_of a < 14
+place_below : (a : Name) → place_of a < 15
 place_below Main = omega arith
 place_below Method = omega arith
 place_below All = omega arith
@@ -51,6 +52,7 @@ place_below Write = omega arith
 place_below Micro = omega arith
 place_below Rounds = omega arith
 place_below Further = omega arith
+place_below Facts = omega arith
 
 eq_true : (x y : ℕ) → (x == y) ≡ true → x ≡ y
 eq_true x y e = grind arith
@@ -58,7 +60,7 @@ eq_true x y e = grind arith
 -- ---- what is stored
 
 abbrev pub IsFull : List (Option ℕ) → Type 0
-IsFull values = length values ≡ 14
+IsFull values = length values ≡ 15
 
 pub full_with : (values : List (Option ℕ)) (a : Name) (n : ℕ) → IsFull values → IsFull (with_value values a n)
 full_with values a n full = length-set values (place_of a) (Some n) ∙ full
@@ -92,6 +94,7 @@ not_given Write = refl
 not_given Micro = refl
 not_given Rounds = refl
 not_given Further = refl
+not_given Facts = refl
 
 own_rival : (a : Name) → Contains (rivals a) a
 own_rival Main = (0, omega arith, refl)
@@ -108,6 +111,7 @@ own_rival Write = (0, omega arith, refl)
 own_rival Micro = (0, omega arith, refl)
 own_rival Rounds = (0, omega arith, refl)
 own_rival Further = (0, omega arith, refl)
+own_rival Facts = (0, omega arith, refl)
 
 -- an option that nothing excludes
 alone : (a b : Name) → Contains (a ∷ []) b → Contains (rivals a) a → Contains (rivals b) a
@@ -121,12 +125,18 @@ rival_back Method b (suc (suc k), lt, is) = absurd (omega (arith, lt))
 rival_back All b (zero, lt, is) = subst (λ (x : Name). Contains (rivals x) All) is (own_rival All)
 rival_back All b (suc zero, lt, is) = subst (λ (x : Name). Contains (rivals x) All) is (1, omega arith, refl)
 rival_back All b (suc (suc zero), lt, is) = subst (λ (x : Name). Contains (rivals x) All) is (1, omega arith, refl)
-rival_back All b (suc (suc (suc k)), lt, is) = absurd (omega (arith, lt))
+rival_back All b (suc (suc (suc zero)), lt, is) = subst (λ (x : Name). Contains (rivals x) All) is (1, omega arith, refl)
+rival_back All b (suc (suc (suc (suc k))), lt, is) = absurd (omega (arith, lt))
 rival_back Shapes b (zero, lt, is) = subst (λ (x : Name). Contains (rivals x) Shapes) is (own_rival Shapes)
 rival_back Shapes b (suc zero, lt, is) = subst (λ (x : Name). Contains (rivals x) Shapes) is (2, omega arith, refl)
 rival_back Shapes b (suc (suc zero), lt, is) = subst (λ (x : Name). Contains (rivals x) Shapes) is (1, omega arith, refl)
 rival_back Shapes b (suc (suc (suc zero)), lt, is) = subst (λ (x : Name). Contains (rivals x) Shapes) is (1, omega arith, refl)
-rival_back Shapes b (suc (suc (suc (suc k))), lt, is) = absurd (omega (arith, lt))
+rival_back Shapes b (suc (suc (suc (suc zero))), lt, is) = subst (λ (x : Name). Contains (rivals x) Shapes) is (2, omega arith, refl)
+rival_back Shapes b (suc (suc (suc (suc (suc k)))), lt, is) = absurd (omega (arith, lt))
+rival_back Facts b (zero, lt, is) = subst (λ (x : Name). Contains (rivals x) Facts) is (own_rival Facts)
+rival_back Facts b (suc zero, lt, is) = subst (λ (x : Name). Contains (rivals x) Facts) is (3, omega arith, refl)
+rival_back Facts b (suc (suc zero), lt, is) = subst (λ (x : Name). Contains (rivals x) Facts) is (4, omega arith, refl)
+rival_back Facts b (suc (suc (suc k)), lt, is) = absurd (omega (arith, lt))
 rival_back Blocks b (zero, lt, is) = subst (λ (x : Name). Contains (rivals x) Blocks) is (own_rival Blocks)
 rival_back Blocks b (suc zero, lt, is) = subst (λ (x : Name). Contains (rivals x) Blocks) is (2, omega arith, refl)
 rival_back Blocks b (suc (suc k), lt, is) = absurd (omega (arith, lt))
@@ -226,6 +236,7 @@ name_of_word Write = refl
 name_of_word Micro = refl
 name_of_word Rounds = refl
 name_of_word Further = refl
+name_of_word Facts = refl
 
 pub option_of_word : (name : Name) → is_option (name_word name) ≡ true
 option_of_word Main = refl
@@ -242,6 +253,7 @@ option_of_word Write = refl
 option_of_word Micro = refl
 option_of_word Rounds = refl
 option_of_word Further = refl
+option_of_word Facts = refl
 
 pub named_by_word : (verb : Verb) (name : Name) → Contains (names_of verb) name → name_of verb (name_word name) ≡ Some name
 named_by_word verb name is = ap (kept_by verb) (name_of_word name) ∙ sym (if_true (has_name verb name) (Some name) None (in_has verb name is))

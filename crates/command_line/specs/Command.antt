@@ -11,7 +11,7 @@ use Rattle.command_line.specs.declared.table.Verb.{Verb}
 use Rattle.command_line.specs.declared.table.Verb.TheVariants.{Link, Run, Trace, Profile, Bound, Report, Plan, Cycle, Check, Loops, Headers, Need, Asm, Work}
 use Rattle.command_line.specs.declared.table.Name.{Name}
 use Rattle.command_line.specs.declared.table.Name.TheVariants.{Main, Method, All, Shapes, Cycles, Stack, Memory, Blocks, BlockWords, Read, Write, Micro, Rounds}
-use Rattle.command_line.specs.declared.table.Name.TheVariants.{Further}
+use Rattle.command_line.specs.declared.table.Name.TheVariants.{Further, Facts}
 use Rattle.command_line.specs.declared.command.Settings.{Settings}
 use Rattle.command_line.specs.declared.command.Command.{Command}
 use Rattle.command_line.specs.declared.command.Command.TheVariants as commands
@@ -49,7 +49,7 @@ meaning (OneOf ns) k word = if is_number word && list_any (λ n. n == value_of w
 
 -- of each option, by its place among all, what it was given to mean
 abbrev pub none_given : List (Option ℕ)
-none_given = None ∷ None ∷ None ∷ None ∷ None ∷ None ∷ None ∷ None ∷ None ∷ None ∷ None ∷ None ∷ None ∷ None ∷ []
+none_given = None ∷ None ∷ None ∷ None ∷ None ∷ None ∷ None ∷ None ∷ None ∷ None ∷ None ∷ None ∷ None ∷ None ∷ None ∷ []
 
 abbrev pub given : List (Option ℕ) → Name → Option ℕ
 given values name = get_or values (place_of name) None
@@ -88,11 +88,14 @@ made Profile values k n = commands.Profile (settings_of values) k (k + 1)
 made Bound values k n =
     if is_some (given values All) then commands.BoundAll (settings_of values) k (k + 1)
     else if is_some (given values Shapes) then commands.BoundShapes (settings_of values) (value values Method) k (k + 1)
+    else if is_some (given values Facts) then commands.BoundWith (settings_of values) (value values Method) (value values Facts) k (k + 1)
     else commands.Bound (settings_of values) (value values Method) k (k + 1)
 made Report values k n = commands.Report (settings_of values) (value values Method) k (k + 1)
 made Plan values k n = commands.Plan (settings_of values) (value values Rounds) k (k + 1) (k + 2)
 made Cycle values k n = commands.Cycle (settings_of values) (value values Rounds) k (k + 1)
-made Check values k n = commands.Check (settings_of values) k (k + 1) (k + 2)
+made Check values k n =
+    if is_some (given values Facts) then commands.CheckWith (settings_of values) (value values Facts) k (k + 1) (k + 2)
+    else commands.Check (settings_of values) k (k + 1) (k + 2)
 made Loops values k n = commands.Loops (is_some (given values Further)) k
 made Headers values k n = commands.Headers k n
 made Need values k n = commands.Memory k (k + 1) (k + 2)

@@ -2,8 +2,8 @@
 use Rattle.std.specs.Prelude.{◌≡◌, ℕ, ◌+◌, ◌^◌, ◌<◌, ◌≤◌, ◌⊎◌}
 use Rattle.command_line.specs.declared.command.Settings.{Settings}
 use Rattle.command_line.specs.declared.command.Command.{Command}
-use Rattle.command_line.specs.declared.command.Command.TheVariants.{Link, Run, Trace, Profile, Bound, BoundAll, BoundShapes, Report}
-use Rattle.command_line.specs.declared.command.Command.TheVariants.{Plan, Cycle, Check, Loops, Headers, Memory, Asm, Work}
+use Rattle.command_line.specs.declared.command.Command.TheVariants.{Link, Run, Trace, Profile, Bound, BoundWith, BoundAll, BoundShapes, Report}
+use Rattle.command_line.specs.declared.command.Command.TheVariants.{Plan, Cycle, Check, CheckWith, Loops, Headers, Memory, Asm, Work}
 
 pub record AreSettings (settings : Settings) : Type 0 where
   pub cycles : settings.cycles < 2 ^ 63
@@ -23,12 +23,14 @@ HasNumbersInRange (Run settings image) = AreSettings settings
 HasNumbersInRange (Trace settings micro image) = AreSettings settings
 HasNumbersInRange (Profile settings image bounds) = AreSettings settings
 HasNumbersInRange (Bound settings method image bounds) = AreSettings settings
+HasNumbersInRange (BoundWith settings method facts image bounds) = AreSettings settings
 HasNumbersInRange (BoundAll settings image bounds) = AreSettings settings
 HasNumbersInRange (BoundShapes settings method image bounds) = AreSettings settings
 HasNumbersInRange (Report settings method image bounds) = AreSettings settings
 HasNumbersInRange (Plan settings rounds table bounds first) = AreSettings settings × (1 ≤ rounds) × (rounds ≤ 32767)
 HasNumbersInRange (Cycle settings rounds table first) = AreSettings settings × (1 ≤ rounds) × (rounds ≤ 32767)
 HasNumbersInRange (Check settings image bounds certificate) = AreSettings settings
+HasNumbersInRange (CheckWith settings facts image bounds certificate) = AreSettings settings
 HasNumbersInRange (Loops further image) = Unit {0}
 HasNumbersInRange (Headers image operands) = (1 ≤ operands) × (operands ≤ 2)
 HasNumbersInRange (Memory image bounds sizes) = Unit {0}
@@ -42,12 +44,14 @@ AreThere n (Run settings image) = image < n
 AreThere n (Trace settings micro image) = image < n
 AreThere n (Profile settings image bounds) = (image < n) × (bounds < n)
 AreThere n (Bound settings method image bounds) = (method < n) × (image < n) × (bounds < n)
+AreThere n (BoundWith settings method facts image bounds) = (method < n) × (facts < n) × (image < n) × (bounds < n)
 AreThere n (BoundAll settings image bounds) = (image < n) × (bounds < n)
 AreThere n (BoundShapes settings method image bounds) = (method < n) × (image < n) × (bounds < n)
 AreThere n (Report settings method image bounds) = (method < n) × (image < n) × (bounds < n)
 AreThere n (Plan settings rounds table bounds first) = (table < n) × (bounds < n) × (first < n)
 AreThere n (Cycle settings rounds table first) = (table < n) × (first < n)
 AreThere n (Check settings image bounds certificate) = (image < n) × (bounds < n) × (certificate < n)
+AreThere n (CheckWith settings facts image bounds certificate) = (facts < n) × (image < n) × (bounds < n) × (certificate < n)
 AreThere n (Loops further image) = image < n
 AreThere n (Headers image operands) = image + operands ≤ n
 AreThere n (Memory image bounds sizes) = (image < n) × (bounds < n) × (sizes < n)
@@ -58,11 +62,13 @@ AreThere n (Work count) = Unit {0}
 abbrev pub OperandsFollow : Command → Type 0
 OperandsFollow (Profile settings image bounds) = bounds ≡ image + 1
 OperandsFollow (Bound settings method image bounds) = bounds ≡ image + 1
+OperandsFollow (BoundWith settings method facts image bounds) = bounds ≡ image + 1
 OperandsFollow (BoundAll settings image bounds) = bounds ≡ image + 1
 OperandsFollow (BoundShapes settings method image bounds) = bounds ≡ image + 1
 OperandsFollow (Report settings method image bounds) = bounds ≡ image + 1
 OperandsFollow (Plan settings rounds table bounds first) = (bounds ≡ table + 1) × (first ≡ table + 2)
 OperandsFollow (Cycle settings rounds table first) = first ≡ table + 1
 OperandsFollow (Check settings image bounds certificate) = (bounds ≡ image + 1) × (certificate ≡ image + 2)
+OperandsFollow (CheckWith settings facts image bounds certificate) = (bounds ≡ image + 1) × (certificate ≡ image + 2)
 OperandsFollow (Memory image bounds sizes) = (bounds ≡ image + 1) × (sizes ≡ image + 2)
 OperandsFollow command = Unit {0}

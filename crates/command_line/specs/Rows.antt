@@ -1,8 +1,8 @@
 -- Words and what is read of them, worked out by hand.
 use Rattle.std.specs.Prelude.{◌≡◌, true, false, [], ◌∷◌, Ok, Err, codes}
 use Rattle.command_line.specs.declared.command.Settings.{Settings}
-use Rattle.command_line.specs.declared.command.Command.TheVariants.{Link, Run, Trace, Profile, Bound, BoundAll, BoundShapes, Report}
-use Rattle.command_line.specs.declared.command.Command.TheVariants.{Plan, Cycle, Check, Loops, Headers, Memory, Asm, Work}
+use Rattle.command_line.specs.declared.command.Command.TheVariants.{Link, Run, Trace, Profile, Bound, BoundWith, BoundAll, BoundShapes, Report}
+use Rattle.command_line.specs.declared.command.Command.TheVariants.{Plan, Cycle, Check, CheckWith, Loops, Headers, Memory, Asm, Work}
 use Rattle.command_line.specs.Command.{command_of}
 
 abbrev usual : Settings
@@ -39,6 +39,10 @@ CommandRows =
     × (command_of (codes "bound" ∷ codes "--shapes" ∷ codes "--method" ∷ codes "A.a()V" ∷ codes "i" ∷ []) ≡ Err 5)
     × (command_of (codes "bound" ∷ codes "--shapes" ∷ codes "i" ∷ codes "b" ∷ []) ≡ Err 2)
     × (command_of (codes "bound" ∷ codes "i" ∷ codes "b" ∷ []) ≡ Err 1)
+    × (command_of (codes "bound" ∷ codes "--facts" ∷ codes "f" ∷ codes "--method" ∷ codes "A.a()V" ∷ codes "i" ∷ codes "b" ∷ [])
+    ≡ Ok (BoundWith usual 4 2 5 6))
+    × (command_of (codes "bound" ∷ codes "--facts" ∷ codes "f" ∷ codes "i" ∷ codes "b" ∷ []) ≡ Err 3)
+    × (command_of (codes "bound" ∷ codes "--facts" ∷ [] ∷ []) ≡ Err 2)
     × (command_of (codes "bound" ∷ codes "--cycles" ∷ codes "1" ∷ []) ≡ Err 1)
     × (command_of (codes "report" ∷ codes "--method" ∷ codes "A.a()V" ∷ codes "i" ∷ codes "b" ∷ []) ≡ Ok (Report usual 2 3 4))
     × (command_of (codes "report" ∷ codes "i" ∷ codes "b" ∷ []) ≡ Err 1)
@@ -67,6 +71,9 @@ CommandRows =
     × (command_of (codes "cycle" ∷ codes "--micro" ∷ []) ≡ Err 1)
     × (command_of (codes "check" ∷ codes "i" ∷ codes "b" ∷ codes "c" ∷ []) ≡ Ok (Check usual 1 2 3))
     × (command_of (codes "check" ∷ codes "i" ∷ codes "b" ∷ []) ≡ Err 3)
+    × (command_of (codes "check" ∷ codes "--facts" ∷ codes "f" ∷ codes "i" ∷ codes "b" ∷ codes "c" ∷ []) ≡ Ok (CheckWith usual 2 3 4 5))
+    × (command_of (codes "check" ∷ codes "--facts" ∷ codes "f" ∷ codes "i" ∷ codes "b" ∷ []) ≡ Err 5)
+    × (command_of (codes "report" ∷ codes "--facts" ∷ codes "f" ∷ []) ≡ Err 1)
     × (command_of (codes "loops" ∷ codes "i" ∷ []) ≡ Ok (Loops false 1))
     × (command_of (codes "loops" ∷ codes "--further" ∷ codes "i" ∷ []) ≡ Ok (Loops true 2))
     × (command_of (codes "loops" ∷ codes "--further" ∷ []) ≡ Err 2)
@@ -124,6 +131,11 @@ ValueRows =
     × (command_of (codes "bound" ∷ codes "--all" ∷ codes "--method" ∷ codes "A.a()V" ∷ codes "i" ∷ codes "b" ∷ []) ≡ Err 2)
     × (command_of (codes "bound" ∷ codes "--method" ∷ codes "A.a()V" ∷ codes "--all" ∷ codes "i" ∷ codes "b" ∷ []) ≡ Err 3)
     × (command_of (codes "bound" ∷ codes "--method" ∷ codes "A.a()V" ∷ codes "--method" ∷ codes "A.a()V" ∷ []) ≡ Err 3)
+    × (command_of (codes "bound" ∷ codes "--facts" ∷ codes "f" ∷ codes "--facts" ∷ codes "g" ∷ []) ≡ Err 3)
+    × (command_of (codes "bound" ∷ codes "--facts" ∷ codes "f" ∷ codes "--all" ∷ []) ≡ Err 3)
+    × (command_of (codes "bound" ∷ codes "--all" ∷ codes "--facts" ∷ codes "f" ∷ []) ≡ Err 2)
+    × (command_of (codes "bound" ∷ codes "--facts" ∷ codes "f" ∷ codes "--shapes" ∷ []) ≡ Err 3)
+    × (command_of (codes "bound" ∷ codes "--shapes" ∷ codes "--facts" ∷ codes "f" ∷ []) ≡ Err 2)
     × (command_of (codes "bound" ∷ codes "--shapes" ∷ codes "--shapes" ∷ codes "i" ∷ codes "b" ∷ []) ≡ Err 2)
     × (command_of (codes "bound" ∷ codes "--shapes" ∷ codes "--all" ∷ codes "i" ∷ codes "b" ∷ []) ≡ Err 2)
     × (command_of (codes "bound" ∷ codes "--all" ∷ codes "--shapes" ∷ codes "i" ∷ codes "b" ∷ []) ≡ Err 2)

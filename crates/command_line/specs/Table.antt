@@ -6,7 +6,7 @@ use Rattle.command_line.specs.declared.table.Verb.{Verb}
 use Rattle.command_line.specs.declared.table.Verb.TheVariants.{Link, Run, Trace, Profile, Bound, Report, Plan, Cycle, Check, Loops, Headers, Need, Asm, Work}
 use Rattle.command_line.specs.declared.table.Name.{Name}
 use Rattle.command_line.specs.declared.table.Name.TheVariants.{Main, Method, All, Shapes, Cycles, Stack, Memory, Blocks, BlockWords, Read, Write, Micro, Rounds}
-use Rattle.command_line.specs.declared.table.Name.TheVariants.{Further}
+use Rattle.command_line.specs.declared.table.Name.TheVariants.{Further, Facts}
 
 -- ---- options
 
@@ -25,9 +25,10 @@ name_word Write = codes "--write"
 name_word Micro = codes "--micro"
 name_word Rounds = codes "--rounds"
 name_word Further = codes "--further"
+name_word Facts = codes "--facts"
 
 abbrev pub all_names : List Name
-all_names = Main ∷ Method ∷ All ∷ Shapes ∷ Cycles ∷ Stack ∷ Memory ∷ Blocks ∷ BlockWords ∷ Read ∷ Write ∷ Micro ∷ Rounds ∷ Further ∷ []
+all_names = Main ∷ Method ∷ All ∷ Shapes ∷ Cycles ∷ Stack ∷ Memory ∷ Blocks ∷ BlockWords ∷ Read ∷ Write ∷ Micro ∷ Rounds ∷ Further ∷ Facts ∷ []
 
 -- the place of an option among all
 abbrev pub place_of : Name → ℕ
@@ -45,6 +46,7 @@ place_of Write = 10
 place_of Micro = 11
 place_of Rounds = 12
 place_of Further = 13
+place_of Facts = 14
 
 abbrev pub same_name : Name → Name → Bool
 same_name a b = place_of a == place_of b
@@ -52,10 +54,11 @@ same_name a b = place_of a == place_of b
 -- the options beside which this one is not given: itself, since none is given twice, and those that exclude it
 abbrev pub rivals : Name → List Name
 rivals Method = Method ∷ All ∷ []
-rivals All = All ∷ Method ∷ Shapes ∷ []
-rivals Shapes = Shapes ∷ All ∷ Blocks ∷ BlockWords ∷ []
+rivals All = All ∷ Method ∷ Shapes ∷ Facts ∷ []
+rivals Shapes = Shapes ∷ All ∷ Blocks ∷ BlockWords ∷ Facts ∷ []
 rivals Blocks = Blocks ∷ Shapes ∷ []
 rivals BlockWords = BlockWords ∷ Shapes ∷ []
+rivals Facts = Facts ∷ All ∷ Shapes ∷ []
 rivals name = name ∷ []
 
 -- what an option takes: nothing, a word, a number from one to another, or one of some numbers
@@ -80,6 +83,7 @@ value_of_name Write = ANumber 0 63
 value_of_name Micro = Nothing
 value_of_name Rounds = ANumber 1 32767
 value_of_name Further = Nothing
+value_of_name Facts = AWord
 
 -- what is meant where an option isn't given
 abbrev pub usual : Name → ℕ
@@ -125,11 +129,11 @@ names_of Link = Main ∷ []
 names_of Run = run_names
 names_of Trace = Micro ∷ run_names
 names_of Profile = run_names
-names_of Bound = Method ∷ All ∷ Shapes ∷ bound_names
+names_of Bound = Method ∷ All ∷ Shapes ∷ Facts ∷ bound_names
 names_of Report = Method ∷ bound_names
 names_of Plan = Rounds ∷ bound_names
 names_of Cycle = Rounds ∷ run_names
-names_of Check = bound_names
+names_of Check = Facts ∷ bound_names
 names_of Loops = Further ∷ []
 names_of Headers = []
 names_of Need = []

@@ -48,6 +48,14 @@ pub enum Command {
         image: u32,
         bounds: u32,
     },
+    /// The bound of a method by facts, which are the file of a word.
+    BoundWith {
+        settings: Settings,
+        method: u32,
+        facts: u32,
+        image: u32,
+        bounds: u32,
+    },
     /// The bounds of all methods.
     BoundAll {
         settings: Settings,
@@ -85,6 +93,14 @@ pub enum Command {
     },
     Check {
         settings: Settings,
+        image: u32,
+        bounds: u32,
+        certificate: u32,
+    },
+    /// The check of a certificate by facts, which are the file of a word.
+    CheckWith {
+        settings: Settings,
+        facts: u32,
         image: u32,
         bounds: u32,
         certificate: u32,

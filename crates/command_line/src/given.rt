@@ -25,6 +25,7 @@ pub(crate) struct Given {
     pub(crate) micro: Option<u32>,
     pub(crate) rounds: Option<u32>,
     pub(crate) further: Option<u32>,
+    pub(crate) facts: Option<u32>,
 }
 
 /// Where none is given.
@@ -43,6 +44,7 @@ pub(crate) const NONE_GIVEN: Given = Given {
     micro: None,
     rounds: None,
     further: None,
+    facts: None,
 };
 
 /// The number from one to another that a word gives.
@@ -76,7 +78,7 @@ pub(crate) fn meaning(name: Name, k: u32, word: &str) -> Option<u64>
     ensures small { IfSome result (λ n. (name ≡ Name.Cycles → ⊥) → n < 2 ^ 32) }
 {
     match name {
-        Name::Main | Name::Method => {
+        Name::Main | Name::Method | Name::Facts => {
             if word.is_empty() {
                 None
             } else {
@@ -102,7 +104,7 @@ impl Given {
         match name {
             Name::Main => self.main.is_some(),
             Name::Method => self.method.is_some() || self.all.is_some(),
-            Name::All => self.all.is_some() || self.method.is_some() || self.shapes.is_some(),
+            Name::All => self.is_all_taken(),
             Name::Shapes => self.is_shape_taken(),
             Name::Cycles => self.cycles.is_some(),
             Name::Stack => self.stack.is_some(),
@@ -114,7 +116,15 @@ impl Given {
             Name::Micro => self.micro.is_some(),
             Name::Rounds => self.rounds.is_some(),
             Name::Further => self.further.is_some(),
+            Name::Facts => self.facts.is_some() || self.all.is_some() || self.shapes.is_some(),
         }
+    }
+
+    /// Whether the option was given that asks for all methods, or one that excludes it.
+    fn is_all_taken(&self) -> bool
+        ensures { result ≡ is_taken (values_of self.now) Name.All }
+    {
+        self.all.is_some() || self.method.is_some() || self.shapes.is_some() || self.facts.is_some()
     }
 
     /// Whether the option was given that asks for each shape, or one that excludes it.
@@ -125,6 +135,7 @@ impl Given {
             || self.all.is_some()
             || self.blocks.is_some()
             || self.block_words.is_some()
+            || self.facts.is_some()
     }
 
     /// The same, with this option given too.
@@ -148,6 +159,7 @@ impl Given {
             Name::Micro => made.micro = Some(n as u32),
             Name::Rounds => made.rounds = Some(n as u32),
             Name::Further => made.further = Some(n as u32),
+            Name::Facts => made.facts = Some(n as u32),
         }
         made
     }

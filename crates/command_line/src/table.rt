@@ -1,7 +1,8 @@
 //! The table of commands and their options.
-ghost use Rattle.std.specs.Prelude.{◌≡◌};
+ghost use Rattle.std.specs.Prelude.{◌≡◌, ◌∷◌, []};
+ghost use Rattle.std.specs.List.{list_any};
 ghost use Rattle.command_line.specs.Command.{is_flag};
-ghost use Rattle.command_line.specs.Table.{value_of_name, verb_named, name_named, has_name, name_of};
+ghost use Rattle.command_line.specs.Table.{value_of_name, verb_named, name_named, has_name, name_of, same_name, bound_names};
 
 /// What a command does.
 #[derive(Clone, Copy)]
@@ -40,6 +41,8 @@ pub(crate) enum Name {
     Micro,
     Rounds,
     Further,
+    /// Facts of how often places are visited.
+    Facts,
 }
 
 /// The command that a word names.
@@ -111,6 +114,8 @@ fn name_named(word: &str) -> Option<Name>
         Some(Name::Rounds)
     } else if word == "--further" {
         Some(Name::Further)
+    } else if word == "--facts" {
+        Some(Name::Facts)
     } else {
         None
     }
@@ -124,14 +129,21 @@ fn has_name(verb: Verb, name: Name) -> bool
         Verb::Link => matches!(name, Name::Main),
         Verb::Run | Verb::Profile => is_of_run(name),
         Verb::Trace => matches!(name, Name::Micro) || is_of_run(name),
-        Verb::Bound => matches!(name, Name::Method | Name::All | Name::Shapes) || is_of_bound(name),
+        Verb::Bound => is_of_methods(name) || is_of_bound(name),
         Verb::Report => matches!(name, Name::Method) || is_of_bound(name),
         Verb::Plan => matches!(name, Name::Rounds) || is_of_bound(name),
         Verb::Cycle => matches!(name, Name::Rounds) || is_of_run(name),
-        Verb::Check => is_of_bound(name),
+        Verb::Check => matches!(name, Name::Facts) || is_of_bound(name),
         Verb::Loops => matches!(name, Name::Further),
         Verb::Headers | Verb::Need | Verb::Asm | Verb::Work => false,
     }
+}
+
+/// Whether it says of which methods, and by which facts, bounds are asked for.
+fn is_of_methods(name: Name) -> bool
+    ensures { result ≡ list_any (same_name name) (Name.Method ∷ Name.All ∷ Name.Shapes ∷ Name.Facts ∷ []) }
+{
+    matches!(name, Name::Method | Name::All | Name::Shapes | Name::Facts)
 }
 
 /// Whether it is an option of `run`.
@@ -143,7 +155,7 @@ fn is_of_run(name: Name) -> bool
 
 /// Whether it is one of the four that a bound depends on.
 fn is_of_bound(name: Name) -> bool
-    ensures { result ≡ has_name Verb.Check name }
+    ensures { result ≡ list_any (same_name name) bound_names }
 {
     matches!(
         name,

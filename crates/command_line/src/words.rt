@@ -286,7 +286,7 @@ fn made(verb: Verb, given: &Given, k: u32, count: u32) -> Command
     }
 }
 
-/// The bounds of all methods, or the bound of one, in each shape or in one; word `k` is the image.
+/// The bounds of all methods, or the bound of one: in each shape, by facts or without; word `k` is the image.
 fn bound(given: &Given, k: u32) -> Command
     requires { k + 1 < 2 ^ 32 }
     ensures { result ≡ made Verb.Bound (values_of given.now) k 0 }
@@ -301,6 +301,14 @@ fn bound(given: &Given, k: u32) -> Command
         Command::BoundShapes {
             settings: given.settings(),
             method: given.method.unwrap_or(0),
+            image: k,
+            bounds: k + 1,
+        }
+    } else if given.facts.is_some() {
+        Command::BoundWith {
+            settings: given.settings(),
+            method: given.method.unwrap_or(0),
+            facts: given.facts.unwrap_or(0),
             image: k,
             bounds: k + 1,
         }
@@ -364,15 +372,25 @@ fn loops(given: &Given, k: u32) -> Command
     }
 }
 
-/// The check of a certificate; word `k` is the image.
+/// The check of a certificate, by facts where they are given; word `k` is the image.
 fn check(given: &Given, k: u32) -> Command
     requires { k + 2 < 2 ^ 32 }
     ensures { result ≡ made Verb.Check (values_of given.now) k 0 }
 {
-    Command::Check {
-        settings: given.settings(),
-        image: k,
-        bounds: k + 1,
-        certificate: k + 2,
+    if given.facts.is_some() {
+        Command::CheckWith {
+            settings: given.settings(),
+            facts: given.facts.unwrap_or(0),
+            image: k,
+            bounds: k + 1,
+            certificate: k + 2,
+        }
+    } else {
+        Command::Check {
+            settings: given.settings(),
+            image: k,
+            bounds: k + 1,
+            certificate: k + 2,
+        }
     }
 }

@@ -51,6 +51,7 @@ faulty bytes image endings.Written is fault = absurd fault
 faulty bytes image (endings.Linked sizes) is fault = absurd fault
 faulty bytes image (endings.Holds held) is fault = absurd fault
 faulty bytes image (endings.NotHeld check name) is fault = absurd fault
+faulty bytes image (endings.NotPriced method node name) is fault = absurd fault
 faulty bytes image (endings.NotAnswered cause subject) is fault = absurd fault
 faulty bytes image (endings.Uncaught class name counts) is fault = absurd fault
 faulty bytes image (endings.Refused refusal) is fault = absurd fault

@@ -3,7 +3,7 @@ use Rattle.std.specs.Prelude.{ℕ}
 use Rattle.outside.specs.Outside.{Rose}
 use Rattle.endings.specs.declared.outcome.Ending.{Ending}
 use Rattle.endings.specs.declared.outcome.Ending.TheVariants.{Ended, Written, Linked, Holds, Uncaught}
-use Rattle.endings.specs.declared.outcome.Ending.TheVariants.{Refused, TooLong, NotLinked, NotHeld, NotAnswered, Spent}
+use Rattle.endings.specs.declared.outcome.Ending.TheVariants.{Refused, TooLong, NotLinked, NotHeld, NotPriced, NotAnswered, Spent}
 use Rattle.endings.specs.declared.outcome.Ending.TheVariants.{CycleEnded, CycleUncaught, CycleSpent}
 use Rattle.endings.specs.declared.outcome.Ending.TheVariants.{ReadFault, InputFault, WriteFault, NoMemory}
 use Rattle.endings.specs.declared.outcome.Outcome.{Outcome}
@@ -20,6 +20,7 @@ Leaves (Refused refusal) = Unit {0}
 Leaves (TooLong method name blocks limit) = Unit {0}
 Leaves (NotLinked refusal name) = Unit {0}
 Leaves (NotHeld fault name) = Unit {0}
+Leaves (NotPriced method node name) = Unit {0}
 Leaves (NotAnswered cause subject) = Unit {0}
 Leaves (Spent counts) = ⊥
 Leaves (CycleEnded slots) = ⊥

@@ -4,12 +4,13 @@ use Rattle.std.specs.List.{concat}
 use Rattle.endings.specs.declared.outcome.Refusal.{Refusal}
 use Rattle.endings.specs.declared.outcome.Refusal.TheVariants.{Usage, TooBig, BadImage, Differs}
 use Rattle.endings.specs.declared.outcome.Refusal.TheVariants.{MethodTooLong, MemoryTooSmall, BadBounds, TwiceBound, BadSizes}
-use Rattle.endings.specs.declared.outcome.Refusal.TheVariants.{TwiceSize, BadLines, TwiceLines, BadTable, SlotCount, BadCert, Check}
+use Rattle.endings.specs.declared.outcome.Refusal.TheVariants.{TwiceSize, BadLines, TwiceLines, BadFacts, TwiceFact, NoFact, BadTable, SlotCount, BadCert}
+use Rattle.endings.specs.declared.outcome.Refusal.TheVariants.{Check, Price}
 use Rattle.endings.specs.declared.outcome.Refusal.TheVariants.{Bound, Memory, NoLoop, Plan, Asm, Link}
 use Rattle.endings.specs.declared.outcome.AsmRefusal.TheVariants as asm
 use Rattle.endings.specs.declared.outcome.Ending.{Ending}
 use Rattle.endings.specs.declared.outcome.Ending.TheVariants.{Ended, Written, Linked, Holds, Uncaught}
-use Rattle.endings.specs.declared.outcome.Ending.TheVariants.{Refused, TooLong, NotLinked, NotHeld, NotAnswered, Spent}
+use Rattle.endings.specs.declared.outcome.Ending.TheVariants.{Refused, TooLong, NotLinked, NotHeld, NotPriced, NotAnswered, Spent}
 use Rattle.endings.specs.declared.outcome.Ending.TheVariants.{CycleEnded, CycleUncaught, CycleSpent}
 use Rattle.endings.specs.declared.outcome.Ending.TheVariants.{ReadFault, InputFault, WriteFault, NoMemory}
 use Rattle.microcode_asm.specs.declared.AsmKind.{AsmKind}
@@ -68,10 +69,14 @@ refusal_parts words (BadSizes line) = analysis.bad_sizes_parts line
 refusal_parts words (TwiceSize line) = analysis.twice_size_parts line
 refusal_parts words (BadLines line) = analysis.bad_lines_parts line
 refusal_parts words (TwiceLines line) = analysis.twice_lines_parts line
+refusal_parts words (BadFacts line) = analysis.bad_facts_parts line
+refusal_parts words (TwiceFact line) = analysis.twice_fact_parts line
+refusal_parts words (NoFact line) = analysis.no_fact_parts line
 refusal_parts words (BadTable line) = analysis.bad_table_parts line
 refusal_parts words (SlotCount count) = analysis.slot_count_parts count
 refusal_parts words (BadCert line) = analysis.bad_cert_parts line
 refusal_parts words (Check fault) = []
+refusal_parts words (Price method node) = []
 refusal_parts words (Bound cause) = []
 refusal_parts words (Memory cause) = []
 refusal_parts words NoLoop = []
@@ -92,6 +97,7 @@ parts_of words (TooLong method name blocks limit) = too_long_parts name.items bl
 parts_of words (Refused refusal) = refusal_parts words refusal
 parts_of words (NotLinked refusal name) = link_parts refusal name.items
 parts_of words (NotHeld fault name) = analysis.fault_parts fault name.items
+parts_of words (NotPriced method node name) = analysis.price_parts name.items node
 parts_of words (NotAnswered cause subject) = unanswered_parts cause subject.items
 parts_of words (Spent counts) = codes "spent" ∷ counts_parts counts
 parts_of words (CycleEnded slots) = codes "ended" ∷ slot_counts_parts slots
@@ -117,6 +123,7 @@ is_fault (Refused refusal) = false
 is_fault (TooLong method name blocks limit) = false
 is_fault (NotLinked refusal name) = is_memory refusal
 is_fault (NotHeld fault name) = false
+is_fault (NotPriced method node name) = false
 is_fault (NotAnswered cause subject) = false
 is_fault (Spent counts) = false
 is_fault (CycleEnded slots) = false

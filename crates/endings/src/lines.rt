@@ -8,9 +8,10 @@ ghost use Rattle.endings.specs.Line.{text_of_word, kind_name, link_parts, too_lo
 
 use crate::outcome::{AsmRefusal, Ending, Refusal};
 use answer_lines::{
-    AsmLine, Line, LinkLine, say, say_bad_bounds, say_bad_cert, say_bad_lines, say_bad_sizes,
-    say_bad_table, say_fault, say_held, say_slot_count, say_twice_bound, say_twice_lines,
-    say_twice_size, say_unanswered,
+    AsmLine, Line, LinkLine, say, say_bad_bounds, say_bad_cert, say_bad_facts, say_bad_lines,
+    say_bad_sizes, say_bad_table, say_fault, say_held, say_no_fact, say_price_fault,
+    say_slot_count, say_twice_bound, say_twice_fact, say_twice_lines, say_twice_size,
+    say_unanswered,
 };
 use jopizer::LinkRefusal;
 use microcode_asm::AsmKind;
@@ -47,6 +48,7 @@ pub fn say_ending<O: Sink>(sink: &mut O, words: &[&str], ending: &Ending) -> Res
         Ending::TooLong(_, name, blocks, limit) => say_too_long(sink, name, *blocks, *limit),
         Ending::NotLinked(refusal, name) => say_link_refusal(sink, *refusal, name),
         Ending::NotHeld(fault, name) => say_fault(sink, *fault, name),
+        Ending::NotPriced(_, node, name) => say_price_fault(sink, name, *node),
         Ending::NotAnswered(cause, subject) => say_unanswered(sink, *cause, subject),
         Ending::ReadFault | Ending::InputFault => say(sink, &Line::ReadFault),
         Ending::WriteFault => say(sink, &Line::WriteFault),
@@ -80,10 +82,14 @@ fn say_refusal<O: Sink>(sink: &mut O, words: &[&str], refusal: Refusal) -> Resul
         Refusal::TwiceSize(line) => say_twice_size(sink, line),
         Refusal::BadLines(line) => say_bad_lines(sink, line),
         Refusal::TwiceLines(line) => say_twice_lines(sink, line),
+        Refusal::BadFacts(line) => say_bad_facts(sink, line),
+        Refusal::TwiceFact(line) => say_twice_fact(sink, line),
+        Refusal::NoFact(line) => say_no_fact(sink, line),
         Refusal::BadTable(line) => say_bad_table(sink, line),
         Refusal::SlotCount(count) => say_slot_count(sink, count),
         Refusal::BadCert(line) => say_bad_cert(sink, line),
         Refusal::Check(_)
+        | Refusal::Price(_, _)
         | Refusal::Bound(_)
         | Refusal::Memory(_)
         | Refusal::NoLoop

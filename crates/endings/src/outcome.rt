@@ -39,6 +39,12 @@ pub enum Refusal {
     BadLines(u32),
     /// The line of this number is the first of them that bounds once more what a line before it bounds.
     TwiceLines(u32),
+    /// The line of this number, counted from 1, is the first of the facts that is none of their grammar, or whose facts aren't taken.
+    BadFacts(u32),
+    /// The line of this number is the first of the facts that says once more what a line before it says.
+    TwiceFact(u32),
+    /// The line of this number is the first of the facts that says nothing of the program.
+    NoFact(u32),
     /// The line of this number, counted from 1, is the first of the table of slots that is none of its grammar.
     BadTable(u32),
     /// The table has so many slots, and not 1 to 64.
@@ -47,6 +53,8 @@ pub enum Refusal {
     BadCert(u64),
     /// This is the first condition of the certificate that fails.
     Check(CheckFault),
+    /// The first price of the certificate of which no fact is given is at this node of the method of this number.
+    Price(u32, u32),
     /// This is why no bound of the method is given.
     Bound(BoundCause),
     /// This is why no need of memory is given.
@@ -129,6 +137,8 @@ pub enum Ending {
     NotLinked(LinkRefusal, Vec<u8>),
     /// The first condition of the certificate that fails, and the name of the method of which it speaks.
     NotHeld(CheckFault, Vec<u8>),
+    /// The first price of the certificate of which no fact is given: the number of its method, its node, and the method's name.
+    NotPriced(u32, u32, Vec<u8>),
     /// Why what is asked isn't answered, and what the line names.
     NotAnswered(Cause, Vec<u8>),
     Spent(Counts),

@@ -23,6 +23,8 @@ usage:
   jop profile [OPTION VALUE].. IMAGE BOUNDS  runs it, and puts what the calls of each method took, and its bound
   jop bound --method NAME [OPTION VALUE].. IMAGE BOUNDS
                                              puts a certificate of what a method takes at most
+  jop bound --facts FACTS --method NAME [OPTION VALUE].. IMAGE BOUNDS
+                                             puts one of calls that keep facts of how often places are visited
   jop bound --all [OPTION VALUE].. IMAGE BOUNDS
                                              puts a line for each method, with its bound or why it has none
   jop bound --shapes --method NAME [OPTION VALUE].. IMAGE BOUNDS
@@ -35,6 +37,8 @@ usage:
                                              runs a cyclic executive, and says how its slots kept their lengths
   jop check [OPTION VALUE].. IMAGE BOUNDS CERTIFICATE
                                              says whether a certificate shows what a method takes at most
+  jop check --facts FACTS [OPTION VALUE].. IMAGE BOUNDS CERTIFICATE
+                                             says whether it does of calls that keep facts
   jop loops [--further] IMAGE                puts the bounds of the loops that count
   jop headers IMAGE [LINES]                  puts a text of bounds with the source line of each loop
   jop memory IMAGE BOUNDS SIZES              says how many words a run needs at most
@@ -136,6 +140,7 @@ example:
 
 const BOUND: &str = "\
 jop bound --method NAME [OPTION VALUE].. IMAGE BOUNDS
+jop bound --facts FACTS --method NAME [OPTION VALUE].. IMAGE BOUNDS
 jop bound --all [OPTION VALUE].. IMAGE BOUNDS
 jop bound --shapes --method NAME [OPTION VALUE].. IMAGE BOUNDS
 
@@ -148,6 +153,9 @@ number, `never`, `too-long` where some code doesn't fit, or `too-large` where a 
   --method NAME      the method: its class, a dot, its name and its descriptor, as `app/Main.step(I)I`
   --all              all methods; this or --method must be given
   --shapes           in each shape of the method cache; not with --all, --blocks or --block-words
+  --facts FACTS      a text of lines `NAME PC total<=N`, `NAME PC total<=N per PC2`: how often an instruction is visited
+                     in a call of the method, or from each entry of the loop at PC2 to the next; the number is of calls
+                     that keep them; not with --all or --shapes
   --blocks N         blocks of the method cache, 1 to 256 (16)
   --block-words N    words of a block, 1 to 1024 (64)
   --read N           cycles that a read waits, 0 to 63 (1)
@@ -162,6 +170,7 @@ answers:
   bound: missing bound NAME PC             status 2: the loop whose header stands at PC has no line
   bound: too large NAME                    status 2: a number passes 64 bits
   bad bounds line=N, twice bound line=N    status 2
+  bad facts line=N, twice fact line=N, no such fact line=N   status 2
   bad image, differs word=K .., link: .., method too long NAME ..   status 2
   usage: word K, too big NAME sum=S        status 2
   read fault, write fault                  status 4
@@ -169,6 +178,8 @@ answers:
 
 example:
   $ jop bound --method 'Mean.step(I)I' controller.jopi examples/controller/controller.bounds > mean.cert
+  $ echo 'Mean.step(I)I 39 total<=4 per 30' > mean.facts
+  $ jop bound --facts mean.facts --method 'Mean.step(I)I' controller.jopi examples/controller/controller.bounds
   $ jop bound --all controller.jopi examples/controller/controller.bounds
   $ jop bound --shapes --method 'Mean.step(I)I' controller.jopi examples/controller/controller.bounds
 ";
@@ -257,9 +268,11 @@ example:
 
 const CHECK: &str = "\
 jop check [OPTION VALUE].. IMAGE BOUNDS CERTIFICATE
+jop check --facts FACTS [OPTION VALUE].. IMAGE BOUNDS CERTIFICATE
 
 Checks a certificate of what a method takes at most. The options are those with which it was made.
 
+  --facts FACTS      a text of lines `NAME PC total<=N`, `NAME PC total<=N per PC2`, for a certificate with prices
   --blocks N         blocks of the method cache, 1 to 256 (16)
   --block-words N    words of a block, 1 to 1024 (64)
   --read N           cycles that a read waits, 0 to 63 (1)
@@ -271,7 +284,9 @@ answers:
                                            none returns
   check: missing NAME, check: member NAME NODE, check: edge NAME NODE NODE, check: exit NAME NODE, check: region NAME
                                            status 2: the first condition that fails
+  check: price NAME NODE                   status 2: no fact is given of this price, the first such
   bad bounds line=N, twice bound line=N, bad cert line=N   status 2
+  bad facts line=N, twice fact line=N, no such fact line=N   status 2
   bad image, differs word=K .., link: .., method too long NAME ..   status 2
   usage: word K, too big NAME sum=S        status 2
   read fault, write fault                  status 4

@@ -1,10 +1,12 @@
 -- The code of a bare image that the method cache doesn't hold is answered.
-use Rattle.std.proofs.Common.{◌≡◌, ℕ, ◌<◌, List, ◌∷◌, Some, ◌∙◌, subst, arith, ◌⊎◌, inl, inr, ⊎_elim}
+use Rattle.std.proofs.Common.{◌≡◌, ℕ, ◌<◌, List, ◌∷◌, Option, Some, ◌∙◌, subst, arith, ◌⊎◌, inl, inr, ⊎_elim}
 use Rattle.lists.proofs.Lemmas.{none≢some, some_same}
 use Rattle.image_file.specs.Bare.{BareContent, IsBareFile}
 use Rattle.command_line.specs.declared.command.Settings.{Settings}
 use Rattle.jopizer.specs.Linked.{image_of}
 use Rattle.ask_commands.specs.declared.asking.Question.{Question}
+use Rattle.ask_commands.specs.declared.priced_files.PricedQuestion.{PricedQuestion}
+use Rattle.ask_commands.specs.declared.priced_files.PricedQuestion.TheVariants.{CheckWith, BoundWith}
 use Rattle.ask_commands.specs.declared.asking.Question.TheVariants as questions
 use Rattle.endings.specs.declared.outcome.Answer.{Answer}
 use Rattle.endings.specs.declared.outcome.Answer.TheVariants.{Text, Ends}
@@ -23,11 +25,13 @@ use Rattle.ask_commands.specs.Bounding.{BoundsBare}
 use Rattle.ask_commands.specs.AllBounds.{SaysNoBound}
 use Rattle.endings.specs.AnalysisFaults.{EndsUnread}
 use Rattle.ask_commands.specs.Asking.{EndsBy, IsBareAnswer}
+use Rattle.ask_commands.specs.Pricing.{BoundsBareWith, ChecksBareWith}
+use Rattle.ask_commands.specs.PricedFiles.{IsBarePricedAnswer}
 use Rattle.endings.specs.Putting.{PutsAnswer}
 use Rattle.run_commands.specs.Profiling.{ProfilesBare}
 use Rattle.jop_cli.specs.Calls.{Call}
 use Rattle.jop_cli.specs.promises.Images.{OneBareImage}
-use Rattle.jop_cli.specs.promises.Refusals.{cache_asked, cache_needed, LongBareCodesAreRefused}
+use Rattle.jop_cli.specs.promises.Refusals.{cache_asked, cache_with, cache_needed, LongBareCodesAreRefused}
 use Rattle.jop_cli.proofs.Wholly.{wholly, quiet_without}
 use Rattle.jop_cli.proofs.RunningLaw.{begins_linked, begins_bare, image_read}
 use Rattle.jop_cli.proofs.Told.{EndsSo, answers_so}
@@ -67,6 +71,18 @@ module _ (s : Settings) (image : BareContent) (more : s.blocks < blocks_of_code 
   asked_long questions.Headers operands answer is answers = absurd (none≢some s is)
   asked_long questions.Memory operands answer is answers = absurd (none≢some s is)
 
+  -- and where facts are given, too
+  asked_with_long : (question : PricedQuestion) (operands : List (List ℕ)) (facts : List ℕ) (answer : Answer) → ◌≡◌ {A = Option Settings} (Some (cache_with question)) (Some s) → IsBarePricedAnswer question image operands facts answer
+      → EndsBy (λ ending. ending ≡ Refused) answer
+  asked_with_long (CheckWith other) operands facts (Text text) is answers = answers
+  asked_with_long (CheckWith other) operands facts (Ends ending) is answers =
+      let moved = subst (λ (x : Settings). ChecksBareWith x image (text_of_word operands 1) facts (text_of_word operands 2) ending) (some_same other s is) answers in
+      too_long ending moved (λ m. let fits = m.fits in omega (arith, fits, more))
+  asked_with_long (BoundWith other method) operands facts (Text text) is answers = answers
+  asked_with_long (BoundWith other method) operands facts (Ends ending) is answers =
+      let moved = subst (λ (x : Settings). BoundsBareWith x image (text_of_word operands 1) facts ending) (some_same other s is) answers in
+      too_long ending moved (λ m. let fits = m.fits in omega (arith, fits, more))
+
   module _ (c : Call) (operands : List (List ℕ)) (ending : Ending) where
     abbrev SaysSo : Type 0
     SaysSo = EndsSo c ending Refused
@@ -75,6 +91,11 @@ module _ (s : Settings) (image : BareContent) (more : s.blocks < blocks_of_code 
         → AnswersBy c (IsBareAnswer question image operands) ending → SaysSo
     by_answer question is (Text text) answers put r = absurd (asked_long question operands (Text text) is answers)
     by_answer question is (Ends said) answers put r = record { is = inl (put.0 ∙ asked_long question operands (Ends said) is answers); quiet = ends_quiet c ending said put r.watch r.input }
+
+    by_facts : (question : PricedQuestion) (facts : List ℕ) → ◌≡◌ {A = Option Settings} (Some (cache_with question)) (Some s) → (answer : Answer) → IsBarePricedAnswer question image operands facts answer
+        → PutsAnswer answer c.old.out c.new.out c.old.out_faults c.new.out_faults ending → AnswersBy c (IsBarePricedAnswer question image operands facts) ending → SaysSo
+    by_facts question facts is (Text text) answers put r = absurd (asked_with_long question operands facts (Text text) is answers)
+    by_facts question facts is (Ends said) answers put r = record { is = inl (put.0 ∙ asked_with_long question operands facts (Ends said) is answers); quiet = ends_quiet c ending said put r.watch r.input }
 
     by_run : (show : Show) → DoesBare c (tasks.Run s show 0) image operands ending → SaysSo
     by_run show did =
@@ -95,6 +116,7 @@ module _ (s : Settings) (image : BareContent) (more : s.blocks < blocks_of_code 
     task_long (tasks.Profile other word) is did =
         by_profile (text_of_word operands 1) (subst (λ (x : Settings). ProfilesBare x image (text_of_word operands 1) ending × IsQuiet c.old c.new) (some_same other s is) did)
     task_long (tasks.Ask asked) is did = by_answer asked.question is did.answer did.is did.puts did
+    task_long (tasks.AskWith asked) is did = by_facts asked.question did.facts is did.by.answer did.by.is did.by.puts did.by
     task_long task is did = absurd did
 
   bare_long : OneBareImage → (c : Call) (task : Task) (bytes : List ℕ) (operands : List (List ℕ)) → IsBareFile bytes image → cache_needed task ≡ Some s → (ending : Ending) → Opened c task bytes operands ending → EndsSo c ending Refused

@@ -19,6 +19,9 @@ use Rattle.ask_commands.specs.declared.asking.Asked.{Asked}
 use Rattle.endings.specs.declared.outcome.Answer.{Answer}
 use Rattle.endings.specs.declared.outcome.Answer.TheVariants.{Text, Ends}
 use Rattle.endings.specs.Line.{text_of_word}
+use Rattle.ask_commands.specs.declared.priced_files.PricedQuestion.{PricedQuestion}
+use Rattle.ask_commands.specs.declared.priced_files.AskedWith.{AskedWith}
+use Rattle.ask_commands.specs.PricedFiles.{AnswersWith, AsksFilesWith}
 use Rattle.ask_commands.specs.Asking.{Answers, AsksFiles}
 use Rattle.endings.specs.Putting.{PutsAnswer}
 use Rattle.endings.specs.Phase.{is_linked}
@@ -29,7 +32,7 @@ use Rattle.jop_cli.specs.declared.task.Task.{Task}
 use Rattle.jop_cli.specs.declared.task.Task.TheVariants as tasks
 use Rattle.jop_cli.specs.Tasks.{task_of}
 use Rattle.jop_cli.specs.Answer.{DoesTask, Does, RunsFile, ShowsOutput, TakesFor, TakesInput, RunsProgram, lent_of, lent_without_input}
-use Rattle.jop_cli.proofs.Refusing.{IsRefusing, Says, refuses, holds, bytes_refuse, image_refuses, linked_says, bare_refuses}
+use Rattle.jop_cli.proofs.Refusing.{IsRefusing, Says, refuses, holds, bytes_refuse, image_refuses, linked_says, bare_refuses, linked_says_with, bare_refuses_with}
 
 -- the file was read, and its bytes were run as those of a bare image or of a linked one
 pub runs_read : (settings : Settings) (show : Show) (word : ℕ) (whole bytes : List ℕ) (old new : World) (ending : Ending) → bytes ≡ whole → Reads word whole old new
@@ -65,6 +68,8 @@ run_shows (commands.Report settings method image bounds) shows = absurd shows
 run_shows (commands.Plan settings rounds table bounds first) shows = absurd shows
 run_shows (commands.Cycle settings rounds table first) shows = absurd shows
 run_shows (commands.Check settings image bounds certificate) shows = absurd shows
+run_shows (commands.BoundWith settings method facts image bounds) shows = absurd shows
+run_shows (commands.CheckWith settings facts image bounds certificate) shows = absurd shows
 run_shows (commands.Loops further image) shows = absurd shows
 run_shows (commands.Headers image operands) shows = absurd shows
 run_shows (commands.Memory image bounds sizes) shows = absurd shows
@@ -98,6 +103,7 @@ risen_but (endings.Refused refusal) before now other = tt
 risen_but (endings.TooLong method name blocks limit) before now other = tt
 risen_but (endings.NotLinked refusal name) before now other = tt
 risen_but (endings.NotHeld fault name) before now other = tt
+risen_but (endings.NotPriced method node name) before now other = tt
 risen_but (endings.NotAnswered cause subject) before now other = tt
 risen_but (endings.Spent counts) before now other = tt
 risen_but (endings.CycleEnded slots) before now other = tt
@@ -139,3 +145,32 @@ asks_no_input words asked old new asks =
 
 pub asks_risen : (words : List (List ℕ)) (asked : Asked) (old new : World) (e : Ending) (before now : ℕ) → AsksFiles words asked old new e → FailsRisen e before now
 asks_risen words asked old new e before now asks = risen_but e before now (λ is. asks_no_input words asked old new (subst (AsksFiles words asked old new) is asks))
+
+-- ---- nor does what is asked by facts
+
+answers_with_say : (words : List (List ℕ)) (question : PricedQuestion) (operands : List (List ℕ)) (facts : List ℕ) (e : Ending) → AnswersWith words question operands facts (Ends e) → Says e
+answers_with_say words question operands facts e answers =
+    ⊎_elim
+    (λ linked. ⊎_elim (λ fault. refuses (bytes_refuse (text_of_word operands 0) e fault)) (λ r. linked_says_with words question r.linked operands facts e r.answers) linked.1)
+    (λ bare. ⊎_elim (λ fault. refuses (image_refuses (text_of_word operands 0) e fault)) (λ b. refuses (bare_refuses_with question b.image operands facts e b.answers)) bare.1)
+    answers
+
+puts_with_no_input : (words : List (List ℕ)) (question : PricedQuestion) (operands : List (List ℕ)) (facts : List ℕ) (answer : Answer) (old new : Option (List ℕ)) (before now : ℕ) → AnswersWith words question operands facts answer
+    → PutsAnswer answer old new before now endings.InputFault → ⊥
+puts_with_no_input words question operands facts (Text text) old new before now answers puts =
+    ⊎_elim (λ whole. let says = whole.0 in absurd (cc)) (λ part. let says = part.0 in absurd (cc)) puts
+puts_with_no_input words question operands facts (Ends says) old new before now answers puts =
+    says_no_input says (answers_with_say words question operands facts says answers) (sym puts.0)
+
+asks_with_no_input : (words : List (List ℕ)) (asked : AskedWith) (old new : World) → AsksFilesWith words asked old new endings.InputFault → ⊥
+asks_with_no_input words asked old new asks =
+    ⊎_elim
+    (λ fault. fault.0)
+    (λ rest. ⊎_elim
+    (λ f. f.0.fault)
+    (λ r. puts_with_no_input words asked.question r.operands r.facts r.answer old.out new.out old.out_faults new.out_faults r.answers r.puts)
+    rest)
+    asks
+
+pub asks_with_risen : (words : List (List ℕ)) (asked : AskedWith) (old new : World) (e : Ending) (before now : ℕ) → AsksFilesWith words asked old new e → FailsRisen e before now
+asks_with_risen words asked old new e before now asks = risen_but e before now (λ is. asks_with_no_input words asked old new (subst (AsksFilesWith words asked old new) is asks))

@@ -2,7 +2,7 @@
 use Rattle.std.proofs.Common.{ℕ}
 use Rattle.endings.specs.declared.outcome.Ending.{Ending}
 use Rattle.endings.specs.declared.outcome.Ending.TheVariants.{Ended, Written, Linked, Holds, Uncaught, Refused, TooLong, NotLinked, NotHeld}
-use Rattle.endings.specs.declared.outcome.Ending.TheVariants.{NotAnswered, Spent, CycleEnded, CycleUncaught, CycleSpent, ReadFault, InputFault, WriteFault, NoMemory}
+use Rattle.endings.specs.declared.outcome.Ending.TheVariants.{NotPriced, NotAnswered, Spent, CycleEnded, CycleUncaught, CycleSpent, ReadFault, InputFault, WriteFault, NoMemory}
 use Rattle.jop_cli.specs.Answer.{outcome_of, outcome_unsaid}
 use Rattle.endings.specs.Leaving.{Leaves, FailsRisen, LeavesAll}
 
@@ -16,6 +16,7 @@ leaves_said (Refused refusal) before now risen all = tt
 leaves_said (TooLong method name blocks limit) before now risen all = tt
 leaves_said (NotLinked refusal name) before now risen all = tt
 leaves_said (NotHeld fault name) before now risen all = tt
+leaves_said (NotPriced method node name) before now risen all = tt
 leaves_said (NotAnswered cause subject) before now risen all = tt
 leaves_said (Spent counts) before now risen all = all
 leaves_said (CycleEnded slots) before now risen all = all
@@ -36,6 +37,7 @@ leaves_unsaid (Refused refusal) before now risen all = tt
 leaves_unsaid (TooLong method name blocks limit) before now risen all = tt
 leaves_unsaid (NotLinked refusal name) before now risen all = tt
 leaves_unsaid (NotHeld fault name) before now risen all = tt
+leaves_unsaid (NotPriced method node name) before now risen all = tt
 leaves_unsaid (NotAnswered cause subject) before now risen all = tt
 leaves_unsaid (Spent counts) before now risen all = all
 leaves_unsaid (CycleEnded slots) before now risen all = all

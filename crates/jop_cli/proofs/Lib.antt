@@ -45,4 +45,7 @@ mod OneLoops
 mod OnePlan
 mod OneHeaders
 mod OneAllBounds
+mod OneShapes
+mod NoFacts
 mod TextFaults
+mod FactsKept

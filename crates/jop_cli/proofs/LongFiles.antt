@@ -69,6 +69,14 @@ module _ (c : Call) (n : NothingFailed c) (operand sum : ℕ) where
       (λ fault. operands_end c asked.image operand sum h n (asked.image + asked.operands) ending fault.1 fault.0)
       (λ r. absurd (not_all c asked.image operand sum h (asked.image + asked.operands) below r.operands r.are))
       did
+  long (tasks.AskWith asked) ending below h did =
+      ⊎_elim
+      (λ fault. operands_end c asked.image operand sum h n (asked.image + asked.operands) ending fault.1 fault.0)
+      (λ rest. ⊎_elim
+      (λ f. absurd (not_all c asked.image operand sum h (asked.image + asked.operands) below f.0.operands f.0.reads.are))
+      (λ r. absurd (not_all c asked.image operand sum h (asked.image + asked.operands) below r.operands r.reads.are))
+      rest)
+      did
   long (tasks.Work count) ending below h did = absurd (omega (arith, below))
 
 pub long_files_are_refused : LongFilesAreRefused

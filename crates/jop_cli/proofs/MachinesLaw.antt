@@ -18,11 +18,17 @@ use Rattle.analysis_commands.specs.declared.check.CheckRefusal.{CheckRefusal}
 use Rattle.analysis_commands.specs.declared.check.CheckRefusal.TheVariants as check
 use Rattle.analysis_commands.specs.declared.bound.NotBounded.{NotBounded}
 use Rattle.analysis_commands.specs.declared.bound.NotBounded.TheVariants as bound
+use Rattle.analysis_commands.specs.declared.priced_check.NotHeld.{NotHeld}
+use Rattle.analysis_commands.specs.declared.priced_check.NotHeld.TheVariants as priced_check
+use Rattle.analysis_commands.specs.declared.priced_bound.NotPriced.{NotPriced}
+use Rattle.analysis_commands.specs.declared.priced_bound.NotPriced.TheVariants as priced_bound
 use Rattle.slot_plans.specs.declared.plan.NotPlanned.{NotPlanned}
 use Rattle.slot_plans.specs.declared.plan.NotPlanned.TheVariants as plans
 use Rattle.analysis_commands.specs.Analysis.{IsAnalysisFault}
 use Rattle.analysis_commands.specs.Checking.{IsCheckRefusal}
 use Rattle.analysis_commands.specs.Bounding.{IsNotBounded}
+use Rattle.analysis_commands.specs.PricedBounds.{IsNotBoundedWith}
+use Rattle.analysis_commands.specs.PricedChecks.{IsPricedRefusal, IsNotHeldWith}
 use Rattle.slot_plans.specs.Plan.{IsNotPlanned}
 use Rattle.run_devices.specs.Lent.{Lent}
 use Rattle.command_line.specs.declared.command.Settings.{Settings}
@@ -30,6 +36,8 @@ use Rattle.jopizer.specs.Linked.{Parts, IsLinked, image_of}
 use Rattle.jopizer.specs.Laws.{OneLinked, LinkedImagesAreRead}
 use Rattle.jopizer.proofs.OneLemmas.{OneClass, same_program}
 use Rattle.ask_commands.specs.declared.asking.Question.{Question}
+use Rattle.ask_commands.specs.declared.priced_files.PricedQuestion.{PricedQuestion}
+use Rattle.ask_commands.specs.declared.priced_files.PricedQuestion.TheVariants.{CheckWith, BoundWith}
 use Rattle.ask_commands.specs.declared.asking.Question.TheVariants as questions
 use Rattle.endings.specs.declared.outcome.Answer.{Answer}
 use Rattle.endings.specs.declared.outcome.Answer.TheVariants.{Text, Ends}
@@ -50,6 +58,8 @@ use Rattle.ask_commands.specs.Bounding.{cause_ending, Bounds, EndsNotBounded}
 use Rattle.ask_commands.specs.AllBounds.{SaysBounds, EndsUnanalysed}
 use Rattle.ask_commands.specs.Reporting.{SaysReport}
 use Rattle.ask_commands.specs.Asking.{EndsBy, IsAnswer}
+use Rattle.ask_commands.specs.Pricing.{unbounded_ending, unheld_ending, BoundsWith, EndsUnbounded, ChecksWith}
+use Rattle.ask_commands.specs.PricedFiles.{IsPricedAnswer}
 use Rattle.endings.specs.Putting.{PutsAnswer}
 use Rattle.endings.specs.Executive.{executive_class, with_executive, IsLinkedOf, IsLinkedWith}
 use Rattle.slot_plans.specs.Planning.{plan_ending}
@@ -59,7 +69,7 @@ use Rattle.jop_cli.specs.Calls.{Call, NothingFailed, LacksMemory}
 use Rattle.jop_cli.specs.promises.Answers.{AnswersEnding}
 use Rattle.jop_cli.specs.promises.Plan.{IsPlanned, puts, says, lacks, PlansAreAnswered}
 use Rattle.jop_cli.specs.promises.Cycle.{IsCycled, lacks, ran, unheld, CyclesAreRuns}
-use Rattle.jop_cli.specs.promises.Refusals.{TakesImage, cache_asked, cache_needed, memory_needed, of_image}
+use Rattle.jop_cli.specs.promises.Refusals.{TakesImage, cache_asked, cache_with, cache_needed, memory_needed, of_image}
 use Rattle.jop_cli.specs.promises.Refusals.{of_plan, of_cycle, AnswersTooLong, LongMethodsAreRefused, SmallMemoriesAreRefused}
 use Rattle.jop_cli.proofs.Wholly.{IsWholly, wholly, quiet_of}
 use Rattle.jop_cli.proofs.Wholly as whole
@@ -165,6 +175,47 @@ module _ (l : Parts) (s : Settings) (method blocks : ℕ) (long : IsTooLong s l 
   checks_long text cert ending checks =
       ⊎_elim (λ held. absurd (not_fit held.shows.meets.reads.codes_fit)) (λ r. refusal_long text cert ending r.refusal r.cause r.says) checks
 
+  -- nor is it where facts are given, too
+  priced_long : (text facts cert : List ℕ) (ending : Ending) (refusal : CheckRefusal) → IsPricedRefusal l.classes s text facts cert refusal → ending ≡ refusal_ending s refusal → Long ending
+  priced_long text facts cert ending (check.NoAnalysis fault) is ends = fault_long text ending fault is ends
+  priced_long text facts cert ending (check.BadCert line) is ends = absurd (not_fit is.reads.codes_fit)
+  priced_long text facts cert ending (check.Fails fault name) is ends = absurd (not_fit is.0.reads.codes_fit)
+  priced_long text facts cert ending check.NoMemory is ends = unnamed ends
+
+  unheld_with_long : (text facts cert : List ℕ) (ending : Ending) (refusal : NotHeld) → IsNotHeldWith l.classes s text facts cert refusal → ending ≡ unheld_ending s refusal → Long ending
+  unheld_with_long text facts cert ending (priced_check.NoFacts refusal) is ends = absurd (not_fit is.0.0)
+  unheld_with_long text facts cert ending (priced_check.NoPrice m u name) is ends = absurd (not_fit is.0.reads.codes_fit)
+  unheld_with_long text facts cert ending (priced_check.Refused refusal) is ends =
+      ⊎_elim (λ plain. refusal_long text cert ending refusal plain.refused ends) (λ priced. priced_long text facts cert ending refusal priced ends) is
+
+  checks_with_long : (text facts cert : List ℕ) (ending : Ending) → ChecksWith l.classes s text facts cert ending → Long ending
+  checks_with_long text facts cert ending checks =
+      ⊎_elim
+      (λ held.
+      let codes : CodesFit s l = ⊎_elim (λ plain. plain.1.reads.codes_fit) (λ priced. priced.reads.codes_fit) held.shows.meets in
+      absurd (not_fit codes))
+      (λ r. unheld_with_long text facts cert ending r.refusal r.cause r.says)
+      checks
+
+  unbounded_with_long : (text facts name : List ℕ) (ending : Ending) (cause : NotPriced) → IsNotBoundedWith l.classes s text facts name cause → ending ≡ unbounded_ending s cause → Long ending
+  unbounded_with_long text facts name ending (priced_bound.NoFacts refusal) is ends = absurd (not_fit is.0.0)
+  unbounded_with_long text facts name ending (priced_bound.NotBound (bound.NoAnalysis fault)) is ends = fault_long text ending fault is ends
+  unbounded_with_long text facts name ending (priced_bound.NotBound (bound.Forbidden cause subject)) is ends = absurd (not_fit is.1.codes_fit)
+  unbounded_with_long text facts name ending (priced_bound.NotBound bound.NoMemory) is ends = unnamed ends
+
+  asked_with_long : (words : List (List ℕ)) (question : PricedQuestion) (operands : List (List ℕ)) (facts : List ℕ) (answer : Answer) → ◌≡◌ {A = Option Settings} (Some (cache_with question)) (Some s) → IsPricedAnswer words question l operands facts answer
+      → EndsBy Long answer
+  asked_with_long words (CheckWith other) operands facts (Text text) is answers = answers
+  asked_with_long words (CheckWith other) operands facts (Ends ending) is answers =
+      checks_with_long (text_of_word operands 1) facts (text_of_word operands 2) ending
+      (subst (λ (x : Settings). ChecksWith l.classes x (text_of_word operands 1) facts (text_of_word operands 2) ending) (some_same other s is) answers)
+  asked_with_long words (BoundWith other m) operands facts (Text text) is answers =
+      let moved = subst (λ (x : Settings). BoundsWith l.classes x (text_of_word operands 1) facts (text_of_word words m) text.items) (some_same other s is) answers in
+      absurd (not_fit moved.is.codes_fit)
+  asked_with_long words (BoundWith other m) operands facts (Ends ending) is answers =
+      let moved = subst (λ (x : Settings). EndsUnbounded l.classes x (text_of_word operands 1) facts (text_of_word words m) ending) (some_same other s is) answers in
+      unbounded_with_long (text_of_word operands 1) facts (text_of_word words m) ending moved.cause moved.is moved.says
+
   -- each question that asks for the method cache
   asked_long : (words : List (List ℕ)) (question : Question) (operands : List (List ℕ)) (answer : Answer) → cache_asked question ≡ Some s → IsAnswer words question l operands answer → EndsBy Long answer
   asked_long words (questions.Check other) operands (Text text) is answers = answers
@@ -259,6 +310,13 @@ module _ (c : Call) (l : Parts) (s : Settings) (method blocks : ℕ) (long : IsT
       let of_said = asked_long l s method blocks long c.words question operands (Ends said) is answers in
       (subst (LongEnding l.classes s method blocks) (sym put.0) of_said, ends_quiet c ending said put r.watch r.input)
 
+  by_facts : (question : PricedQuestion) (facts : List ℕ) → ◌≡◌ {A = Option Settings} (Some (cache_with question)) (Some s) → (answer : Answer) → IsPricedAnswer c.words question l operands facts answer
+      → PutsAnswer answer c.old.out c.new.out c.old.out_faults c.new.out_faults ending → AnswersBy c (IsPricedAnswer c.words question l operands facts) ending → LongQuiet
+  by_facts question facts is (Text text) answers put r = absurd (asked_with_long l s method blocks long c.words question operands facts (Text text) is answers)
+  by_facts question facts is (Ends said) answers put r =
+      let of_said = asked_with_long l s method blocks long c.words question operands facts (Ends said) is answers in
+      (subst (LongEnding l.classes s method blocks) (sym put.0) of_said, ends_quiet c ending said put r.watch r.input)
+
   task_long : (task : Task) → cache_needed task ≡ Some s → DoesLinked c task l operands ending → LongQuiet
   task_long (tasks.Run other show word) is did =
       tried_long (by_run c l s ending show (subst (λ (x : Settings). EndsAs x show l (lent_of c.old) (lent_of c.new) ending) (some_same other s is) did))
@@ -267,6 +325,7 @@ module _ (c : Call) (l : Parts) (s : Settings) (method blocks : ℕ) (long : IsT
       (by_profile c l s ending (text_of_word operands 1) did.1
       (subst (λ (x : Settings). ProfilesLinked x l (text_of_word operands 1) (unwatched c.old) (unwatched c.new) ending) (some_same other s is) did.0))
   task_long (tasks.Ask asked) is did = by_answer asked.question is did.answer did.is did.puts did
+  task_long (tasks.AskWith asked) is did = by_facts asked.question did.facts is did.by.answer did.by.is did.by.puts did.by
   task_long task is did = absurd did
 
 module _ (c : Call) (l : Parts) (s : Settings) (codes : CodesFit s l) (more : s.memory < length l.laid.words) (operands : List (List ℕ)) (ending : Ending) where
@@ -284,6 +343,7 @@ module _ (c : Call) (l : Parts) (s : Settings) (codes : CodesFit s l) (more : s.
       (by_profile c l s ending (text_of_word operands 1) did.1
       (subst (λ (x : Settings). ProfilesLinked x l (text_of_word operands 1) (unwatched c.old) (unwatched c.new) ending) (some_same other s is) did.0))
   task_small (tasks.Ask asked) is did = absurd (none≢some s is)
+  task_small (tasks.AskWith asked) is did = absurd (none≢some s is)
   task_small task is did = absurd did
 
 -- ---- an image

@@ -1,12 +1,15 @@
 -- What comes of the bytes of the image that a command takes.
-use Rattle.std.proofs.Common.{◌≡◌, ℕ, ◌+◌, true, false, List, ◌∷◌, sym, ◌∙◌, ap, subst, inl, inr, ◌⊎◌, ⊎_elim}
+use Rattle.std.proofs.Common.{◌≡◌, ℕ, ◌+◌, true, false, List, ◌∷◌, length, refl, sym, ◌∙◌, ap, subst, arith, inl, inr, ◌⊎◌, ⊎_elim}
+use Rattle.std.specs.Prelude.{sum_by}
 use Rattle.image_file.specs.Bare.{BareContent, IsBareFile}
 use Rattle.image_file.specs.Linked as file
 use Rattle.jopizer.specs.Linked.{Parts, IsLinked, image_of}
 use Rattle.command_line.specs.declared.command.Settings.{Settings}
 use Rattle.ask_commands.specs.declared.asking.Asked.{Asked}
+use Rattle.ask_commands.specs.declared.priced_files.AskedWith.{AskedWith}
 use Rattle.endings.specs.declared.outcome.Answer.{Answer}
 use Rattle.endings.specs.declared.outcome.Answer.TheVariants.{Text, Ends}
+use Rattle.endings.specs.declared.outcome.Refusal.TheVariants as refusals
 use Rattle.endings.specs.declared.outcome.Ending.{Ending}
 use Rattle.endings.specs.declared.outcome.Ending.TheVariants as endings
 use Rattle.endings.specs.declared.show.Show.{Show}
@@ -21,13 +24,14 @@ use Rattle.endings.specs.Opening.{BytesFault}
 use Rattle.run_commands.specs.LinkedFile.{EndsAs, RunsLinkedBytes}
 use Rattle.endings.specs.Opening.{OpenFault}
 use Rattle.ask_commands.specs.Asking.{IsAnswer, IsBareAnswer, Answers, AsksFiles}
+use Rattle.ask_commands.specs.PricedFiles.{IsPricedAnswer, IsBarePricedAnswer, AnswersWith, IsFactsEnding, AsksFilesWith}
 use Rattle.endings.specs.Putting.{PutsAnswer}
 use Rattle.run_commands.specs.Profiling.{ProfilesLinked, ProfilesBare, ProfilesImage, ProfilesFiles, unwatched}
 use Rattle.jop_cli.specs.Tasks.{task_of}
 use Rattle.jop_cli.specs.Answer.{DoesTask, RunsFile, lent_of, lent_without_input}
 use Rattle.jop_cli.specs.Calls.{Call, NothingFailed}
 use Rattle.jop_cli.specs.promises.Refusals.{TakesImage}
-use Rattle.jop_cli.proofs.Wholly.{executed, quiet_of, quiet_without, whole_told}
+use Rattle.jop_cli.proofs.Wholly.{executed, quiet_of, quiet_without, whole_told, length_told}
 use Rattle.jop_cli.proofs.ProfilingLaw as profiles
 use Rattle.jop_cli.proofs.Told.{same_told, told_are_read, first_told, told_is_read}
 
@@ -39,12 +43,18 @@ pub record AnswersBy (c : Call) (answers : Answer → Type 0) (ending : Ending) 
   pub watch : c.new.watch ≡ c.old.watch
   pub input : IsUntaken c.old c.new
 
+-- this does by some facts
+pub record AnswersByFacts (c : Call) (answers : (facts : List ℕ) → Answer → Type 0) (ending : Ending) : Type 0 where
+  pub facts : List ℕ
+  pub by : AnswersBy c (answers facts) ending
+
 -- what a command does with what is linked whose image it takes
 abbrev pub DoesLinked : Call → Task → Parts → (operands : List (List ℕ)) → Ending → Type 0
 DoesLinked c (tasks.Run s show image) l operands ending = EndsAs s show l (lent_of c.old) (lent_of c.new) ending
 DoesLinked c (tasks.Profile s image) l operands ending =
     ProfilesLinked s l (text_of_word operands 1) (unwatched c.old) (unwatched c.new) ending × (c.new.watch ≡ c.old.watch)
 DoesLinked c (tasks.Ask asked) l operands ending = AnswersBy c (IsAnswer c.words asked.question l operands) ending
+DoesLinked c (tasks.AskWith asked) l operands ending = AnswersByFacts c (IsPricedAnswer c.words asked.question l operands) ending
 DoesLinked c task l operands ending = ⊥
 
 -- and with a bare image
@@ -54,6 +64,7 @@ DoesBare c (tasks.Run s show image) bare operands ending =
     × IsUntaken c.old c.new
 DoesBare c (tasks.Profile s image) bare operands ending = ProfilesBare s bare (text_of_word operands 1) ending × IsQuiet c.old c.new
 DoesBare c (tasks.Ask asked) bare operands ending = AnswersBy c (IsBareAnswer asked.question bare operands) ending
+DoesBare c (tasks.AskWith asked) bare operands ending = AnswersByFacts c (IsBarePricedAnswer asked.question bare operands) ending
 DoesBare c task bare operands ending = ⊥
 
 pub data Opened (c : Call) (task : Task) (bytes : List ℕ) (operands : List (List ℕ)) (ending : Ending) : Type 0 where
@@ -159,12 +170,70 @@ module _ (c : Call) (n : NothingFailed c) (asked : Asked) (bytes : List ℕ) (ta
       answered_by ending r.answer (subst (λ (x : List (List ℕ)). Answers c.words asked.question x r.answer) same r.answers) r.puts r.watch r.input)
       did
 
+-- ---- by facts
+
+module _ (c : Call) (n : NothingFailed c) (asked : AskedWith) (bytes : List ℕ) (takes : TakesImage c (tasks.AskWith asked) bytes) where
+  abbrev Priced : Ending → Type 0
+  Priced ending = Opened c (tasks.AskWith asked) bytes (bytes ∷ takes.others) ending
+
+  -- their file is read, unless there is no memory
+  facts_read : (operands : List (List ℕ)) → operands ≡ bytes ∷ takes.others → (ending : Ending)
+      → IsFactsEnding asked.facts (sum_by length operands) (c.old.files asked.facts) (c.old.file_faults asked.facts) (c.new.file_faults asked.facts) ending → ending ≡ endings.NoMemory
+  facts_read operands same (endings.Refused (refusals.TooBig operand sum)) h =
+      let sums : sum_by length operands ≡ sum_by length (bytes ∷ takes.others) = ap (sum_by length) same in
+      let long : h.1 ≡ length takes.facts.0 = length_told (c.old.files asked.facts) takes.facts.0 h.1 takes.facts.1 h.2 in
+      let few = takes.facts.2 in
+      let sum_is = h.3 in
+      let past = h.4 in
+      absurd (omega (arith, sums, long, few, sum_is, past))
+  facts_read operands same endings.ReadFault h = absurd (n.files asked.facts takes.facts.0 takes.facts.1 h)
+  facts_read operands same endings.NoMemory h = refl
+  facts_read operands same ending h = absurd h
+
+  priced_by : (ending : Ending) (facts : List ℕ) (answer : Answer) → AnswersWith c.words asked.question (bytes ∷ takes.others) facts answer → PutsAnswer answer c.old.out c.new.out c.old.out_faults c.new.out_faults ending → c.new.watch ≡ c.old.watch
+      → IsUntaken c.old c.new → Priced ending
+  priced_by ending facts (Text text) answers put watch input =
+      ⊎_elim
+      (λ of_linked. ⊎_elim
+      (λ fault. absurd fault)
+      (λ r. on_linked r.linked r.is_linked r.is_file (record { facts = facts; by = record { answer = Text text; is = r.answers; puts = put; watch = watch; input = input } }))
+      of_linked.1)
+      (λ of_bare. ⊎_elim (λ fault. absurd fault) (λ r. on_bare r.image r.bare (record { facts = facts; by = record { answer = Text text; is = r.answers; puts = put; watch = watch; input = input } })) of_bare.1)
+      answers
+  priced_by ending facts (Ends says) answers put watch input =
+      let quiet = ends_quiet c ending says put watch input in
+      ⊎_elim
+      (λ of_linked. ⊎_elim
+      (λ fault. faulty (inl (of_linked.0, subst (BytesFault bytes) (sym put.0) fault)) quiet)
+      (λ r. on_linked r.linked r.is_linked r.is_file (record { facts = facts; by = record { answer = Ends says; is = r.answers; puts = put; watch = watch; input = input } }))
+      of_linked.1)
+      (λ of_bare. ⊎_elim
+      (λ fault. faulty (inr (of_bare.0, subst (ImageFault bytes) (sym put.0) fault)) quiet)
+      (λ r. on_bare r.image r.bare (record { facts = facts; by = record { answer = Ends says; is = r.answers; puts = put; watch = watch; input = input } }))
+      of_bare.1)
+      answers
+
+  priced : (ending : Ending) → AsksFilesWith c.words asked c.old c.new ending → Priced ending
+  priced ending did =
+      ⊎_elim
+      (λ fault. lacking (told_are_read c asked.image (bytes ∷ takes.others) takes.tells n (asked.image + asked.operands) takes.many ending fault.0) fault.1)
+      (λ rest. ⊎_elim
+      (λ f.
+      let same : f.0.operands ≡ bytes ∷ takes.others = same_told c asked.image (bytes ∷ takes.others) takes.tells (asked.image + asked.operands) f.0.operands takes.many f.0.reads.are in
+      lacking (facts_read f.0.operands same ending f.0.fault) f.1)
+      (λ r.
+      let same : r.operands ≡ bytes ∷ takes.others = same_told c asked.image (bytes ∷ takes.others) takes.tells (asked.image + asked.operands) r.operands takes.many r.reads.are in
+      priced_by ending r.facts r.answer (subst (λ (x : List (List ℕ)). AnswersWith c.words asked.question x r.facts r.answer) same r.answers) r.puts r.watch r.input)
+      rest)
+      did
+
 -- ---- all
 
 opened_by : (c : Call) (n : NothingFailed c) (task : Task) (bytes : List ℕ) (takes : TakesImage c task bytes) (ending : Ending) → DoesTask c.words task c.old c.new ending → Opened c task bytes (bytes ∷ takes.others) ending
 opened_by c n (tasks.Run s show word) bytes takes ending did = ran c n s show word bytes takes ending did
 opened_by c n (tasks.Profile s word) bytes takes ending did = profiled c n s word bytes takes ending did
 opened_by c n (tasks.Ask asked) bytes takes ending did = answered c n asked bytes takes ending did
+opened_by c n (tasks.AskWith asked) bytes takes ending did = priced c n asked bytes takes ending did
 opened_by c n task bytes takes ending did = absurd takes.opens
 
 pub opened : (c : Call) (n : NothingFailed c) (task : Task) (bytes : List ℕ) (takes : TakesImage c task bytes) → Opened c task bytes (bytes ∷ takes.others) c.answered.ending

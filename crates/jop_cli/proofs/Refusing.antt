@@ -1,5 +1,5 @@
 -- Endings that refuse: they neither answer, nor say that the input or out failed.
-use Rattle.std.proofs.Common.{◌≡◌, ℕ, true, false, List, sym, subst, ⊎_elim}
+use Rattle.std.proofs.Common.{◌≡◌, ℕ, true, false, List, Option, sym, subst, ⊎_elim}
 use Rattle.class_pool.specs.declared.class.ClassFile.{ClassFile}
 use Rattle.image_file.specs.Bare.{BareContent}
 use Rattle.outside.specs.Files.{FilesTold}
@@ -32,6 +32,16 @@ use Rattle.ask_commands.specs.Bounding.{cause_ending}
 use Rattle.ask_commands.specs.Needs.{memory_ending}
 use Rattle.ask_commands.specs.Headers.{header_ending}
 use Rattle.ask_commands.specs.Asking.{IsAnswer, IsBareAnswer}
+use Rattle.analysis_commands.specs.declared.facts.FactsRefusal.{FactsRefusal}
+use Rattle.analysis_commands.specs.declared.facts.FactsRefusal.TheVariants as facts_refusals
+use Rattle.analysis_commands.specs.declared.priced_bound.NotPriced.{NotPriced}
+use Rattle.analysis_commands.specs.declared.priced_bound.NotPriced.TheVariants as unbounded
+use Rattle.analysis_commands.specs.declared.priced_check.NotHeld.{NotHeld}
+use Rattle.analysis_commands.specs.declared.priced_check.NotHeld.TheVariants as unheld
+use Rattle.ask_commands.specs.declared.priced_files.PricedQuestion.{PricedQuestion}
+use Rattle.ask_commands.specs.declared.priced_files.PricedQuestion.TheVariants as priced_questions
+use Rattle.ask_commands.specs.Pricing.{facts_ending, unbounded_ending, unheld_ending}
+use Rattle.ask_commands.specs.PricedFiles.{IsPricedAnswer, IsBarePricedAnswer, IsFactsEnding}
 use Rattle.jop_cli.specs.Answer.{outcome_of, outcome_unsaid}
 
 abbrev pub IsRefusing : Ending → Type 0
@@ -44,6 +54,7 @@ IsRefusing (endings.Refused refusal) = Unit {0}
 IsRefusing (endings.TooLong method name blocks limit) = Unit {0}
 IsRefusing (endings.NotLinked refusal name) = Unit {0}
 IsRefusing (endings.NotHeld fault name) = Unit {0}
+IsRefusing (endings.NotPriced method node name) = Unit {0}
 IsRefusing (endings.NotAnswered cause subject) = Unit {0}
 IsRefusing (endings.Spent counts) = ⊥
 IsRefusing (endings.CycleEnded slots) = ⊥
@@ -158,3 +169,38 @@ bare_refuses (questions.Report s method) image operands e ends = ⊎_elim (too_l
 bare_refuses (questions.Loops further) image operands e ends = absurd ends
 bare_refuses questions.Headers image operands e ends = refusing_by e (header_ending ends.fault) ends.says (header_refuses ends.fault)
 bare_refuses questions.Memory image operands e ends = refusing_by e (memory_ending ends.refusal) ends.says (need_refuses ends.refusal)
+
+-- ---- by facts
+
+facts_refuse : (refusal : FactsRefusal) → IsRefusing (facts_ending refusal)
+facts_refuse (facts_refusals.BadFacts line) = tt
+facts_refuse (facts_refusals.TwiceFact line) = tt
+facts_refuse (facts_refusals.NoFact line) = tt
+facts_refuse facts_refusals.NoMemory = tt
+
+pub unbounded_refuses : (s : Settings) (cause : NotPriced) → IsRefusing (unbounded_ending s cause)
+unbounded_refuses s (unbounded.NoFacts refusal) = facts_refuse refusal
+unbounded_refuses s (unbounded.NotBound cause) = cause_refuses s cause
+
+pub unheld_refuses : (s : Settings) (refusal : NotHeld) → IsRefusing (unheld_ending s refusal)
+unheld_refuses s (unheld.NoFacts refusal) = facts_refuse refusal
+unheld_refuses s (unheld.NoPrice method node name) = tt
+unheld_refuses s (unheld.Refused refusal) = refusal_refuses s refusal
+
+pub file_of_facts_refuses : (word bytes : ℕ) (told : Option (List ℕ)) (before now : ℕ) (e : Ending) → IsFactsEnding word bytes told before now e → IsRefusing e
+file_of_facts_refuses word bytes told before now (endings.Refused refusal) h = tt
+file_of_facts_refuses word bytes told before now endings.ReadFault h = tt
+file_of_facts_refuses word bytes told before now endings.NoMemory h = tt
+file_of_facts_refuses word bytes told before now e h = absurd h
+
+pub linked_says_with : (words : List (List ℕ)) (question : PricedQuestion) (l : Parts) (operands : List (List ℕ)) (facts : List ℕ) (e : Ending) → IsPricedAnswer words question l operands facts (Ends e) → Says e
+linked_says_with words (priced_questions.CheckWith s) l operands facts e checks =
+    ⊎_elim (λ h. holds h.held h.says) (λ r. refuses (refusing_by e (unheld_ending s r.refusal) r.says (unheld_refuses s r.refusal))) checks
+linked_says_with words (priced_questions.BoundWith s method) l operands facts e ends =
+    refuses (refusing_by e (unbounded_ending s ends.cause) ends.says (unbounded_refuses s ends.cause))
+
+pub bare_refuses_with : (question : PricedQuestion) (image : BareContent) (operands : List (List ℕ)) (facts : List ℕ) (e : Ending) → IsBarePricedAnswer question image operands facts (Ends e) → IsRefusing e
+bare_refuses_with (priced_questions.CheckWith s) image operands facts e ends =
+    ⊎_elim (too_long_refuses s image e) (λ r. refusing_by e (unheld_ending s r.refusal) r.says (unheld_refuses s r.refusal)) ends
+bare_refuses_with (priced_questions.BoundWith s method) image operands facts e ends =
+    ⊎_elim (too_long_refuses s image e) (λ r. refusing_by e (unbounded_ending s r.cause) r.says (unbounded_refuses s r.cause)) ends

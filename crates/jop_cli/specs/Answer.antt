@@ -13,10 +13,10 @@ use Rattle.answer_lines.specs.declared.unanswered.Cause.{Cause}
 use Rattle.answer_lines.specs.declared.unanswered.Cause.TheVariants as causes
 use Rattle.endings.specs.declared.outcome.Refusal.{Refusal}
 use Rattle.endings.specs.declared.outcome.Refusal.TheVariants.{Usage, TooBig, MethodTooLong, Link}
-use Rattle.endings.specs.declared.outcome.Refusal.TheVariants.{Check as NotChecked, Bound as Forbidden, Memory as NotMet, NoLoop, Plan as NotPlanned}
+use Rattle.endings.specs.declared.outcome.Refusal.TheVariants.{Check as NotChecked, Price, Bound as Forbidden, Memory as NotMet, NoLoop, Plan as NotPlanned}
 use Rattle.endings.specs.declared.outcome.Ending.{Ending}
 use Rattle.endings.specs.declared.outcome.Ending.TheVariants.{Ended, Written, Linked, Holds, Uncaught}
-use Rattle.endings.specs.declared.outcome.Ending.TheVariants.{Refused, TooLong, NotLinked, NotHeld, NotAnswered, Spent}
+use Rattle.endings.specs.declared.outcome.Ending.TheVariants.{Refused, TooLong, NotLinked, NotHeld, NotPriced, NotAnswered, Spent}
 use Rattle.endings.specs.declared.outcome.Ending.TheVariants.{CycleEnded, CycleUncaught, CycleSpent}
 use Rattle.endings.specs.declared.outcome.Ending.TheVariants.{ReadFault, InputFault, WriteFault, NoMemory}
 use Rattle.endings.specs.declared.outcome.Outcome.{Outcome}
@@ -32,6 +32,7 @@ use Rattle.endings.specs.World.{World, IsQuiet, IsUntaken, FilesStayBut, IsUncha
 use Rattle.ask_commands.specs.Assembling.{Assembles}
 use Rattle.endings.specs.Linking.{LinksFiles}
 use Rattle.ask_commands.specs.Asking.{AsksFiles}
+use Rattle.ask_commands.specs.PricedFiles.{AsksFilesWith}
 use Rattle.run_commands.specs.Profiling.{ProfilesFiles}
 use Rattle.slot_plans.specs.Planning.{PlansFiles}
 use Rattle.run_commands.specs.Cycling.{CyclesFiles}
@@ -92,6 +93,7 @@ DoesTask words (tasks.Cycle settings rounds table) old new ending = CyclesFiles 
 DoesTask words (tasks.Assemble text) old new ending = Assembles text old new ending
 DoesTask words (tasks.Link main first) old new ending = LinksFiles (text_of_word words main) first old new ending
 DoesTask words (tasks.Ask asked) old new ending = AsksFiles words asked old new ending
+DoesTask words (tasks.AskWith asked) old new ending = AsksFilesWith words asked old new ending
 DoesTask words (tasks.Work n) old new ending = Works n old new ending
 
 -- how what was read of the words ends: a command, or the number of a word
@@ -119,6 +121,7 @@ outcome_of (Refused refusal) = outcomes.Refused refusal
 outcome_of (TooLong method name blocks limit) = outcomes.Refused (MethodTooLong method blocks limit)
 outcome_of (NotLinked refusal name) = outcomes.Refused (Link refusal)
 outcome_of (NotHeld fault name) = outcomes.Refused (NotChecked fault)
+outcome_of (NotPriced method node name) = outcomes.Refused (Price method node)
 outcome_of (NotAnswered cause subject) = outcomes.Refused (refusal_of cause)
 outcome_of (Spent counts) = outcomes.Spent
 outcome_of (CycleEnded slots) = outcomes.Ended
@@ -140,6 +143,7 @@ outcome_unsaid (Refused refusal) = outcomes.WriteFault
 outcome_unsaid (TooLong method name blocks limit) = outcomes.WriteFault
 outcome_unsaid (NotLinked refusal name) = outcomes.WriteFault
 outcome_unsaid (NotHeld fault name) = outcomes.WriteFault
+outcome_unsaid (NotPriced method node name) = outcomes.WriteFault
 outcome_unsaid (NotAnswered cause subject) = outcomes.WriteFault
 outcome_unsaid (Spent counts) = outcomes.WriteFault
 outcome_unsaid (CycleEnded slots) = outcomes.WriteFault

@@ -16,8 +16,10 @@ pub use Rattle.jop_cli.specs.promises.Check.{CheckingIsComplete, FaultsAreAnswer
 -- `bound`: a certificate is put where nothing forbids a bound, else a cause that stands; its bound is kept; a name is that of one method.
 pub use Rattle.jop_cli.specs.promises.Bound.{BoundingIsComplete, BoundRefusalsAreCaused, CausesAreAnswered, WrittenBoundsAreKept, BoundsAreKept}
 pub use Rattle.jop_cli.specs.promises.Bound.{NamesTellMethods}
--- `bound --all`, `bound --shapes`: each number in a line is kept, and the lines of the first are the only answer.
-pub use Rattle.jop_cli.specs.promises.AllBounds.{AllBoundsAreKept, ShapesAreKept, AllBoundsAreOne}
+-- `bound --facts`, `check --facts`: the bound of a certificate is kept by all that keeps the facts, too; no facts suppose nothing.
+pub use Rattle.jop_cli.specs.promises.Facts.{WrittenFactBoundsAreKept, CheckedFactBoundsAreKept, WrittenWithoutFacts, CheckedWithoutFacts}
+-- `bound --all`, `bound --shapes`: each number in a line is kept, and the lines are the only answer.
+pub use Rattle.jop_cli.specs.promises.AllBounds.{AllBoundsAreKept, ShapesAreKept, AllBoundsAreOne, ShapesAreOne}
 -- A bound holds in each run of what is linked, that of a checked certificate in runs of the same bytes; methods that fit the cache are loaded once.
 pub use Rattle.jop_cli.specs.promises.Activations.{BoundsHoldInRuns, CheckedRunsAreKept, MethodsAreLoadedOnce}
 -- `report`: the lines add up to the bound, which is kept.

@@ -6,10 +6,13 @@ use Rattle.command_line.specs.declared.command.Command.TheVariants as commands
 use Rattle.command_line.specs.Range.{AreSettings}
 use Rattle.ask_commands.specs.declared.asking.Question.TheVariants.{Check, Bound, Bounds, Shapes, Report, Loops, Headers, Memory}
 use Rattle.ask_commands.specs.declared.asking.Asked.{Asked}
+use Rattle.ask_commands.specs.declared.priced_files.PricedQuestion.TheVariants.{CheckWith, BoundWith}
+use Rattle.ask_commands.specs.declared.priced_files.AskedWith.{AskedWith}
 use Rattle.endings.specs.declared.show.Show.TheVariants as shows
 use Rattle.jop_cli.specs.declared.task.Task.{Task}
-use Rattle.jop_cli.specs.declared.task.Task.TheVariants.{Run, Profile, Plan, Cycle, Assemble, Link, Ask, Work}
+use Rattle.jop_cli.specs.declared.task.Task.TheVariants.{Run, Profile, Plan, Cycle, Assemble, Link, Ask, AskWith, Work}
 use Rattle.ask_commands.specs.Asking.{HasRightSettings}
+use Rattle.ask_commands.specs.PricedFiles.{HasPricedSettings}
 
 -- ---- the questions
 
@@ -39,6 +42,13 @@ heading image operands = record { question = Headers; image = image; operands = 
 abbrev pub needing : (image : ℕ) → Asked
 needing image = record { question = Memory; image = image; operands = 3 }
 
+-- by the facts of a word
+abbrev pub checking_with : Settings → (facts image : ℕ) → AskedWith
+checking_with s facts image = record { question = CheckWith s; image = image; operands = 3; facts = facts }
+
+abbrev pub bounding_with : Settings → (method facts image : ℕ) → AskedWith
+bounding_with s method facts image = record { question = BoundWith s method; image = image; operands = 2; facts = facts }
+
 -- ---- the commands
 
 abbrev pub task_of : Command → Task
@@ -47,10 +57,12 @@ task_of (commands.Run s image) = Run s shows.Output image
 task_of (commands.Trace s micro image) = Run s (shows.Trace micro) image
 task_of (commands.Profile s image bounds) = Profile s image
 task_of (commands.Bound s method image bounds) = Ask (bounding s method image)
+task_of (commands.BoundWith s method facts image bounds) = AskWith (bounding_with s method facts image)
 task_of (commands.BoundAll s image bounds) = Ask (bounding_all s image)
 task_of (commands.BoundShapes s method image bounds) = Ask (bounding_shapes s method image)
 task_of (commands.Report s method image bounds) = Ask (reporting s method image)
 task_of (commands.Check s image bounds certificate) = Ask (checking s image)
+task_of (commands.CheckWith s facts image bounds certificate) = AskWith (checking_with s facts image)
 task_of (commands.Loops further image) = Ask (finding_loops further image)
 task_of (commands.Headers image operands) = Ask (heading image operands)
 task_of (commands.Memory image bounds sizes) = Ask (needing image)
@@ -68,4 +80,5 @@ IsAmong n (Cycle s rounds table) = AreSettings s × (1 ≤ rounds) × (rounds �
 IsAmong n (Assemble text) = text < n
 IsAmong n (Link main first) = (main < n) × (first < n)
 IsAmong n (Ask asked) = HasRightSettings asked.question × (asked.image + asked.operands ≤ n)
+IsAmong n (AskWith asked) = HasPricedSettings asked.question × (asked.image + asked.operands ≤ n) × (asked.facts < n)
 IsAmong n (Work count) = (1 ≤ count) × (count ≤ 1000)

@@ -20,4 +20,5 @@ pub mod Questions
 pub mod Asm
 pub mod Work
 pub mod Refusals
+pub mod Facts
 pub mod Texts

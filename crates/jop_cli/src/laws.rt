@@ -18,7 +18,8 @@ ghost use Rattle.jop_cli.specs.promises.Plan.{ExecutivesAreThere, PlansAreAnswer
 ghost use Rattle.jop_cli.specs.promises.Cycle.{CyclesAreRuns, SlotsAreKept, CyclesAreShown, NoSlotIsLate};
 ghost use Rattle.jop_cli.specs.promises.Report.{ReportsAddUp, ReportsAreKept};
 ghost use Rattle.jop_cli.specs.promises.Work.{WorkingIsComplete, WorkLinesAreTrue};
-ghost use Rattle.jop_cli.specs.promises.AllBounds.{AllBoundsAreKept, ShapesAreKept, AllBoundsAreOne};
+ghost use Rattle.jop_cli.specs.promises.AllBounds.{AllBoundsAreKept, ShapesAreKept, AllBoundsAreOne, ShapesAreOne};
+ghost use Rattle.jop_cli.specs.promises.Facts.{CheckedFactBoundsAreKept, CheckedWithoutFacts, WrittenFactBoundsAreKept, WrittenWithoutFacts};
 ghost use Rattle.jop_cli.specs.promises.Runs.{RunsAreShown, RunsComeToBoundaries};
 ghost use Rattle.jop_cli.specs.promises.Refusals.{NoCommandIsRefused, LongFilesAreRefused, BadImagesAreRefused, UnlinkedImagesAreRefused};
 ghost use Rattle.jop_cli.specs.promises.Refusals.{DifferingImagesAreRefused, LongMethodsAreRefused, LongBareCodesAreRefused, SmallMemoriesAreRefused};
@@ -135,6 +136,21 @@ pub fn bounds_are_kept()
     certificates_are_sound();
 }
 
+/// Where the answer is that a certificate holds by facts, or that one is written by them, the activations of its method that keep the
+/// facts, too, take at most as many cycles as its bound says.
+pub fn fact_bounds_are_kept()
+    ensures checked { CheckedFactBoundsAreKept }
+    ensures written { WrittenFactBoundsAreKept }
+{}
+
+/// With an empty text of facts nothing is supposed beside the bounds of loops.
+pub fn no_facts_suppose_nothing()
+    ensures written { WrittenWithoutFacts }
+    ensures checked { CheckedWithoutFacts }
+{
+    fact_keeping::laws::no_facts_are_asked();
+}
+
 /// A bound of a method holds of the runs of what is linked, that of a certificate that holds of the runs of the same bytes. In them
 /// activations of methods that fit the cache load each method at most once.
 pub fn bounds_hold_in_runs()
@@ -203,6 +219,19 @@ pub fn all_bounds_are_one()
     answer_laws::laws::bound_lines_are_one();
     bound_laws::laws::own_costs_exist();
     bound_laws::laws::resolved_codes_are_short();
+}
+
+/// The lines of all shapes of the method cache are the only answer.
+pub fn shapes_are_one()
+    ensures { ShapesAreOne }
+{
+    gives_one();
+    bound_rules::laws::numbers_are_one();
+    bound_laws::laws::calls_end_without_recursion();
+    bound_rules::laws::methods_have_code();
+    method_runs::typed_graphs::laws::typed_methods_reach_starts();
+    bound_laws::laws::refusals_are_one();
+    bounding_is_exact();
 }
 
 /// Where there is a plan, the slots of a cycle keep their lengths, and its line says that none was late.

@@ -4,6 +4,7 @@ ghost use Rattle.command_line.specs.Range.{HasNumbersInRange, AreThere, Operands
 ghost use Rattle.jop_cli.specs.Tasks.{task_of, IsAmong};
 
 use ask_commands::asking::{Asked, Question};
+use ask_commands::priced_files::{AskedWith, PricedQuestion};
 use command_line::{Command, Settings};
 use endings::show::Show;
 
@@ -44,6 +45,8 @@ pub(crate) enum Task {
     },
     /// Asks something of the image of a word.
     Ask(Asked),
+    /// Asks something of the image of a word, by facts.
+    AskWith(AskedWith),
     /// Makes a class of so many methods, links it, runs it and bounds it.
     Work {
         count: u32,
@@ -69,6 +72,18 @@ fn ask(question: Question, image: u32, operands: u32) -> Task
         question,
         image,
         operands,
+    })
+}
+
+/// A question about the image of a word, with so many operands, by the facts of a word.
+fn ask_with(question: PricedQuestion, image: u32, operands: u32, facts: u32) -> Task
+    ensures { result ≡ Task.AskWith (record { question = question; image = image; operands = operands; facts = facts }) }
+{
+    Task::AskWith(AskedWith {
+        question,
+        image,
+        operands,
+        facts,
     })
 }
 
@@ -118,6 +133,24 @@ pub(crate) fn task_of(command: Command) -> Task
             image,
             ..
         } => ask(Question::Check { settings }, image, 3),
+        Command::BoundWith {
+            settings,
+            method,
+            facts,
+            image,
+            ..
+        } => ask_with(
+            PricedQuestion::BoundWith { settings, method },
+            image,
+            2,
+            facts,
+        ),
+        Command::CheckWith {
+            settings,
+            facts,
+            image,
+            ..
+        } => ask_with(PricedQuestion::CheckWith { settings }, image, 3, facts),
         Command::Loops { further, image } => ask(Question::Loops { further }, image, 1),
         Command::Headers { image, operands } => ask(Question::Headers, image, operands),
         Command::Memory { image, .. } => ask(Question::Memory, image, 3),

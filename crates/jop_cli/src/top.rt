@@ -17,6 +17,7 @@ use crate::task::{Task, task_of};
 use answer_lines::Cause;
 use ask_commands::asking::ask_files;
 use ask_commands::assembling::assemble_file;
+use ask_commands::priced_files::ask_files_with;
 use command_line::{Settings, read_words};
 use endings::image::{Image, open_image};
 use endings::lines::say_ending;
@@ -150,6 +151,7 @@ fn perform<F: Files, S: Source, O: Sink, V: Watch>(
         Task::Assemble { text } => assemble_file(alloc, text, files, out),
         Task::Link { main, first } => link_files(alloc, words, main, first, files, out),
         Task::Ask(asked) => ask_files(alloc, words, &asked, files, out),
+        Task::AskWith(asked) => ask_files_with(alloc, words, &asked, files, out),
         Task::Work { count } => work(alloc, count, out),
     }
 }
@@ -211,6 +213,7 @@ fn outcome_unsaid(ending: &Ending) -> Outcome
         | Ending::TooLong(_, _, _, _)
         | Ending::NotLinked(_, _)
         | Ending::NotHeld(_, _)
+        | Ending::NotPriced(_, _, _)
         | Ending::NotAnswered(_, _)
         | Ending::Spent(_)
         | Ending::CycleEnded(_)
@@ -248,6 +251,7 @@ fn outcome_for(ending: &Ending) -> Outcome
         }
         Ending::NotLinked(refusal, _) => Outcome::Refused(Refusal::Link(*refusal)),
         Ending::NotHeld(fault, _) => Outcome::Refused(Refusal::Check(*fault)),
+        Ending::NotPriced(method, node, _) => Outcome::Refused(Refusal::Price(*method, *node)),
         Ending::NotAnswered(cause, _) => Outcome::Refused(refusal_of(*cause)),
         Ending::Spent(_) | Ending::CycleSpent(_) => Outcome::Spent,
         Ending::ReadFault | Ending::InputFault => Outcome::ReadFault,

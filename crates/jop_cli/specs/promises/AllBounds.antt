@@ -68,3 +68,10 @@ abbrev pub ShapesAreKept : Type 0
 ShapesAreKept =
     (c : Call) (settings : Settings) (method image bounds : ℕ) → command_of c.words ≡ Ok (BoundShapes settings method image bounds) → c.outcome ≡ Written
     → ShowsShapes c settings method image
+
+-- The lines are the only answer: two texts of the lines of all shapes, of a method of the same name with the same bounds of loops and the same settings, are
+-- one, where a machine runs the program.
+abbrev pub ShapesAreOne : Type 0
+ShapesAreOne =
+    (cs : List ClassFile) → IsResolved cs → IsSetting (linked_setting cs 0 0) → (settings : Settings) → (bounds_text name text other : List ℕ)
+    → AreShapeLines cs settings bounds_text name text → AreShapeLines cs settings bounds_text name other → text ≡ other

@@ -16,7 +16,9 @@ use Rattle.jopizer.specs.Images.{DiffersFirst}
 use Rattle.jop_cli.specs.promises.Words.{command_of, Call, Command, task_of, NothingFailed, LacksMemory, BareContent, IsBareFile, LinkRefusal, RefusesFiles}
 use Rattle.jop_cli.specs.promises.Words.{Settings, Parts, IsLinked, image_of, Slot, IsLinkedWith, CodesFit}
 use Rattle.ask_commands.specs.declared.asking.Question.{Question}
-use Rattle.jop_cli.specs.declared.task.Task.TheVariants.{Run, Profile, Plan, Cycle, Assemble, Link, Ask, Work}
+use Rattle.ask_commands.specs.declared.priced_files.PricedQuestion.{PricedQuestion}
+use Rattle.ask_commands.specs.declared.priced_files.PricedQuestion.TheVariants.{CheckWith, BoundWith}
+use Rattle.jop_cli.specs.declared.task.Task.TheVariants.{Run, Profile, Plan, Cycle, Assemble, Link, Ask, AskWith, Work}
 use Rattle.ask_commands.specs.declared.asking.Question.TheVariants.{Check, Bound, Bounds, Shapes, Report, Loops, Headers, Memory}
 use Rattle.jop_cli.specs.declared.task.Task.{Task}
 use Rattle.jop_cli.specs.promises.Answers.{AnswersEnding, AnswersRefusal}
@@ -40,6 +42,7 @@ first_operand (Cycle settings rounds table) = table
 first_operand (Assemble text) = text
 first_operand (Link main first) = first
 first_operand (Ask asked) = asked.image
+first_operand (AskWith asked) = asked.image
 first_operand (Work n) = 0
 
 -- and the word behind the last one, where there are so many words; `work` reads no file
@@ -51,6 +54,7 @@ end_of_operands words (Cycle settings rounds table) = words
 end_of_operands words (Assemble text) = text + 1
 end_of_operands words (Link main first) = words
 end_of_operands words (Ask asked) = asked.image + asked.operands
+end_of_operands words (AskWith asked) = asked.image + asked.operands
 end_of_operands words (Work n) = 0
 
 -- the files of the words from one on are told to have these bytes, not too many together
@@ -82,9 +86,16 @@ abbrev pub OpensImage : Task → Type 0
 OpensImage (Run settings show image) = Unit {0}
 OpensImage (Profile settings image) = Unit {0}
 OpensImage (Ask asked) = Unit {0}
+OpensImage (AskWith asked) = Unit {0}
 OpensImage task = ⊥
 
--- The words say such a command, and the files of its operands are told; the image's has these bytes.
+-- the file of facts is told, where a task reads one, and with these files it has no more bytes than a command's files may have
+abbrev pub TellsFacts : Call → Task → (operands : List (List ℕ)) → Type 0
+TellsFacts c (AskWith asked) operands =
+    (facts : List ℕ) × (c.old.files asked.facts ≡ Some facts) × (sum_by length operands + length facts ≤ most_bytes)
+TellsFacts c task operands = Unit {0}
+
+-- The words say such a command, and the files that it reads are told; the image's has these bytes.
 pub record TakesImage (c : Call) (task : Task) (bytes : List ℕ) : Type 0 where
   pub command : Command
   pub said : command_of c.words ≡ Ok command
@@ -93,6 +104,7 @@ pub record TakesImage (c : Call) (task : Task) (bytes : List ℕ) : Type 0 where
   pub others : List (List ℕ)
   pub many : first_operand task + length (bytes ∷ others) ≡ end_of_operands c.old.words task
   pub tells : TellsFiles c (first_operand task) (bytes ∷ others)
+  pub facts : TellsFacts c task (bytes ∷ others)
 
 -- the bytes are the file of no image, linked or bare
 abbrev pub IsNoImage : (bytes : List ℕ) → Type 0
@@ -130,12 +142,18 @@ cache_asked (Loops further) = None
 cache_asked Headers = None
 cache_asked Memory = None
 
+-- by facts there always are some
+abbrev pub cache_with : PricedQuestion → Settings
+cache_with (CheckWith settings) = settings
+cache_with (BoundWith settings method) = settings
+
 abbrev pub cache_needed : Task → Option Settings
 cache_needed (Run settings show image) = Some settings
 cache_needed (Profile settings image) = Some settings
 cache_needed (Plan settings rounds table) = Some settings
 cache_needed (Cycle settings rounds table) = Some settings
 cache_needed (Ask asked) = cache_asked asked.question
+cache_needed (AskWith asked) = Some (cache_with asked.question)
 cache_needed task = None
 
 -- the settings whose memory is to hold the words: those of a command that runs them

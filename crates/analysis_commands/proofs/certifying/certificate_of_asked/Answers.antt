@@ -8,4 +8,4 @@ pub certify-requires-clause-ready : goal.certify-requires-clause-ready
 certify-requires-clause-ready c P of = let ready = c.requires.ready.ready P of in record { order = ready.order; reducible = ready.reducible; lines = ready.lines }
 
 pub returns-clause-certificate : goal.returns-clause-certificate
-returns-clause-certificate c = certified_for c.args.analysis.now c.args.found.now.root c.certify.result c.certify.ensures.grammar c.certify.ensures.meets c.certify.ensures.printed c.certify.ensures.kept
+returns-clause-certificate c = certified_for c.args.analysis.now c.args.found.now.root c.certify.result c.certify.ensures.grammar c.certify.ensures.meets c.certify.ensures.kinds c.certify.ensures.empty c.certify.ensures.printed c.certify.ensures.kept

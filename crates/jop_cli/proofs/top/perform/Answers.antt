@@ -3,7 +3,7 @@ use Rattle.command_line.specs.Command.{texts}
 use Rattle.jop_cli.specs.declared.task.Task.{Task}
 use Rattle.endings.specs.World.{world}
 use Rattle.jop_cli.specs.Answer.{DoesTask, ShowsOutput, TakesFor}
-use Rattle.jop_cli.proofs.Executing.{traces_else, assembles_risen, links_risen, asks_risen}
+use Rattle.jop_cli.proofs.Executing.{traces_else, assembles_risen, links_risen, asks_risen, asks_with_risen}
 use Rattle.jop_cli.proofs.Planned.{plans_risen}
 use Rattle.run_commands.proofs.Worked.{works_risen}
 use Rattle.jop_cli.proofs.top.perform.Goals as goal
@@ -31,6 +31,14 @@ returns-in-Ask-clause-does g c =
     (world (g.F.Files.words c.ask_files.new.files) (g.F.Files.told c.ask_files.new.files) (g.F.Files.faults c.ask_files.new.files) (g.S.Source.left c.args.input.now) (g.S.Source.faults c.args.input.now) (g.O.Sink.held c.ask_files.new.out) (g.O.Sink.faults c.ask_files.new.out) (g.V.Watch.held c.args.watch.now))
     c.ask_files.result in
     subst D (sym c.in-Ask.is) (c.ask_files.ensures.asks (g.S.Source.left c.args.input.now) (g.S.Source.faults c.args.input.now) (g.V.Watch.held c.args.watch.now))
+
+pub returns-in-AskWith-clause-does : goal.returns-in-AskWith-clause-does
+returns-in-AskWith-clause-does g c =
+    let D : Task → Type 0 = λ task. DoesTask (texts c.args.words.now) task
+    (world (g.F.Files.words c.args.files.now) (g.F.Files.told c.args.files.now) (g.F.Files.faults c.args.files.now) (g.S.Source.left c.args.input.now) (g.S.Source.faults c.args.input.now) (g.O.Sink.held c.args.out.now) (g.O.Sink.faults c.args.out.now) (g.V.Watch.held c.args.watch.now))
+    (world (g.F.Files.words c.ask_files_with.new.files) (g.F.Files.told c.ask_files_with.new.files) (g.F.Files.faults c.ask_files_with.new.files) (g.S.Source.left c.args.input.now) (g.S.Source.faults c.args.input.now) (g.O.Sink.held c.ask_files_with.new.out) (g.O.Sink.faults c.ask_files_with.new.out) (g.V.Watch.held c.args.watch.now))
+    c.ask_files_with.result in
+    subst D (sym c.in-AskWith.is) (c.ask_files_with.ensures.asks (g.S.Source.left c.args.input.now) (g.S.Source.faults c.args.input.now) (g.V.Watch.held c.args.watch.now))
 
 pub returns-in-Work-clause-does : goal.returns-in-Work-clause-does
 returns-in-Work-clause-does g c =
@@ -108,6 +116,11 @@ pub returns-in-Ask-clause-rose : goal.returns-in-Ask-clause-rose
 returns-in-Ask-clause-rose g c =
     asks_risen _ _ _ _ c.ask_files.result (g.S.Source.faults c.args.input.now) (g.S.Source.faults c.args.input.now)
     (c.ask_files.ensures.asks (g.S.Source.left c.args.input.now) (g.S.Source.faults c.args.input.now) (g.V.Watch.held c.args.watch.now))
+
+pub returns-in-AskWith-clause-rose : goal.returns-in-AskWith-clause-rose
+returns-in-AskWith-clause-rose g c =
+    asks_with_risen _ _ _ _ c.ask_files_with.result (g.S.Source.faults c.args.input.now) (g.S.Source.faults c.args.input.now)
+    (c.ask_files_with.ensures.asks (g.S.Source.left c.args.input.now) (g.S.Source.faults c.args.input.now) (g.V.Watch.held c.args.watch.now))
 
 pub returns-in-Work-clause-rose : goal.returns-in-Work-clause-rose
 returns-in-Work-clause-rose g c =
