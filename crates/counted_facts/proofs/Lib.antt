@@ -1,0 +1,4 @@
+pub mod Staying
+pub mod Parting
+pub mod Holding
+pub mod Booting
