@@ -1,0 +1,12 @@
+pub mod Shape
+pub mod Words
+pub mod Tags
+pub mod Core
+pub mod Methods
+pub mod Stands
+pub mod Ahead
+pub mod Laws
+pub mod Rom
+pub mod Runs
+pub mod Starting
+pub mod Fits
