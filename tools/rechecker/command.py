@@ -5,6 +5,7 @@ from functools import lru_cache
 
 from .conditions import check
 from .costs import Timing
+from .facts import facts_of, read_facts
 from .image_words import word
 from .images import BadImage, BareImage, read_image
 from .names import named
@@ -119,33 +120,37 @@ def shown(words):
     return '%08x' % words[0] if words else 'none'
 
 
-def texts_of(bounds, certificate):
-    """what the texts say"""
-    found = read_bounds(bounds)
+def right(found):
+    """what was read, where it isn't the line that refuses it"""
     if isinstance(found, str):
         raise Answered(found)
-    read = read_certificate(certificate.decode('latin-1'))
-    if isinstance(read, str):
-        raise Answered(read)
-    return found, read
+    return found
 
 
-def check_program(program, timing, bounds, certificate):
-    """the line for a program, and the bytes of the two texts"""
+def texts_of(bounds, certificate, facts, facts_by):
+    """what the texts say: of bounds, of facts, which `facts_by` looks up, and of a certificate"""
+    found = right(read_bounds(bounds))
+    given = {} if facts is None else right(facts_by(right(read_facts(facts))))
+    read = right(read_certificate(certificate.decode('latin-1'), (1, 2) if facts is None else (1, 2, 3)))
+    return found, given, read
+
+
+def check_program(program, timing, bounds, certificate, facts=None):
+    """the line for a program, and the bytes of two texts, or of three"""
     too_long = Priced(program, timing, {}).too_long()
     if too_long is not None:
         name, blocks = program.names[too_long[0]], too_long[1]
         raise Answered('method too long %s blocks=%d limit=%d' % (name, blocks, timing.blocks))
-    found, read = texts_of(bounds, certificate)
-    return check(Priced(program, timing, found), read)
+    found, given, read = texts_of(bounds, certificate, facts, lambda lines: facts_of(program, lines))
+    return check(Priced(program, timing, found), read, given)
 
 
-def check_bare(image, timing, bounds, certificate):
+def check_bare(image, timing, bounds, certificate, facts=None):
     """the line for a bare image, which has no class files"""
     blocks = -(-words_of({'code': image.code}) // timing.block_words)
     if blocks > timing.blocks:
         raise Answered('method too long boot blocks=%d limit=%d' % (blocks, timing.blocks))
-    _, read = texts_of(bounds, certificate)
+    _, _, read = texts_of(bounds, certificate, facts, lambda lines: lines)
     missing = read.sections[0].method if read.sections else read.root
     raise Answered('check: missing #%d' % missing)
 
@@ -164,16 +169,16 @@ def known_image(data):
     return program
 
 
-def check_image(data, timing, bounds, certificate):
-    """the line for the bytes of an image and of the two texts"""
+def check_image(data, timing, *texts):
+    """the line for the bytes of an image and of two texts, or of three"""
     known = known_image(data)
-    return (check_bare if isinstance(known, BareImage) else check_program)(known, timing, bounds, certificate)
+    return (check_bare if isinstance(known, BareImage) else check_program)(known, timing, *texts)
 
 
 def answer(words):
     """the line and the status for the words behind `check`, or for these with `--main` and with `--method`"""
     try:
-        return answered(Words(words, ('--main', '--method'))), HOLDS
+        return answered(Words(words, ('--main', '--method', '--facts'))), HOLDS
     except Answered as other:
         return other.line, other.status
     except NotLinked:
@@ -182,13 +187,15 @@ def answer(words):
 
 def answered(asked):
     """the line of a certificate that holds"""
-    main, method = asked.values.get('--main'), asked.values.get('--method')
+    main, method, facts = (asked.values.get(each) for each in ('--main', '--method', '--facts'))
     asked.require_operands(OPERANDS, OPERANDS if main is None else None)
-    *files, bounds, certificate = read_files(asked.operands)
+    read = read_files(asked.operands + ([] if facts is None else [facts]))
+    count = len(asked.operands) - 2
+    files, texts = read[:count], read[count:]
     if main is None:
-        line = check_image(files[0], asked.timing(), bounds, certificate)
+        line = check_image(files[0], asked.timing(), *texts)
     else:
-        line = check_program(program_of(main_class(main), files), asked.timing(), bounds, certificate)
+        line = check_program(program_of(main_class(main), files), asked.timing(), *texts)
     if not line.startswith('holds '):
         raise Answered(line)
     name = line.split(' ')[1]

@@ -67,10 +67,32 @@ class Loop:
         return self.is_region and (self.fee is None or within)
 
 
+class Prices:
+    """what visits of nodes of a section's method give back, and what pays it: an activation, or entries of loops"""
+
+    def __init__(self, section, facts):
+        self.given, self.due, self.at_entries, self.held = {}, 0, {}, []
+        for u, header, price in section.prices:
+            most = facts[section.method, u, header]
+            self.given[u] = self.given.get(u, 0) + price
+            if header is None:
+                self.due += price * most
+            else:
+                self.at_entries[2 * header] = self.at_entries.get(2 * header, 0) + price * most
+                self.held.append((2 * header, u))
+
+    def back(self, u):
+        return self.given.get(u, 0)
+
+    def due_at(self, header):
+        return self.at_entries.get(header, 0)
+
+
 class SectionCheck:
     """a section of a method with code, behind others whose values are known"""
 
-    def __init__(self, priced, values, section):
+    def __init__(self, priced, values, section, prices, is_paid):
+        self.prices, self.is_paid = prices, is_paid
         self.priced, self.program, self.values, self.m = priced, priced.program, values, section.method
         self.calls = self.program.called[self.m]
         self.is_inside, self.potential = section.kind == 'inside', dict(section.nodes)
@@ -111,14 +133,25 @@ class SectionCheck:
             return None
         return self.potential[0] + (self.headed[0].entry() if 0 in self.headed else 0)
 
+    def paid_value(self):
+        """what an entry costs with all that is due, none where 0 isn't listed"""
+        value = self.value_at_start()
+        return value if value is None else value + self.prices.due + (self.prices.due_at(0) if 0 in self.headed else 0)
+
     def value(self):
         """the section's value, where no condition fails"""
         self.check_targets()
         self.check_places()
         self.check_edges()
         self.check_exits()
-        value = self.value_at_start()
-        return NEVER if value is None or value < 0 else value
+        return self.paid()
+
+    def paid(self):
+        """never where 0 isn't listed; of a section without prices, where the value is below 0, too"""
+        value = self.paid_value()
+        if value is None or value < 0 and not self.is_paid:
+            return NEVER
+        return max(value, 0)
 
     def check_targets(self):
         absent = [t for u in self.nodes for t, value in self.told_at(u).items() if value == ABSENT]
@@ -142,8 +175,11 @@ class SectionCheck:
         for u, v in self.edges:
             if any(u not in each.members and v != each.header for each in self.holding.get(v, [])):
                 yield u
-        if any(each.header != 0 for each in self.holding.get(0, [])) or (self.value_at_start() or 0) > MOST:
+        if any(each.header != 0 for each in self.holding.get(0, [])) or max(self.value_at_start() or 0, self.paid_value() or 0) > MOST:
             yield 0
+        for header, u in self.prices.held:
+            if header not in self.headed or u not in self.headed[header].members:
+                yield header
 
     def check_edges(self):
         for u, v in self.edges:
@@ -155,39 +191,64 @@ class SectionCheck:
             return True
         if u not in self.potential:
             return False
-        has, needs, loop = self.potential[u], self.cost(u) + self.potential[v], self.headed.get(v)
+        has, needs, loop = self.potential[u] + self.prices.back(u), self.cost(u) + self.potential[v], self.headed.get(v)
         if loop is not None and u in loop.members:
             return has + loop.iteration >= needs
-        return has >= needs + (loop.entry() if loop is not None else 0)
+        return has >= needs + (loop.entry() + self.prices.due_at(v) if loop is not None else 0)
 
     def check_exits(self):
         for u in self.exits:
-            if u not in self.potential or self.potential[u] < self.cost(u):
+            if u not in self.potential or self.potential[u] + self.prices.back(u) < self.cost(u):
                 raise Fault('exit', self.m, u)
 
 
-def certified(priced, certificate):
-    """what is printed of a certificate's method, none for never, where no condition fails"""
-    values, methods = Values(priced), range(len(priced.program.coded))
-    for section in certificate.sections:
-        if section.method not in methods:
-            raise Fault('missing', section.method)
-        values.of_kind(section.kind)[section.method] = SectionCheck(priced, values, section).value()
-    root = certificate.root
-    full = values.full(root) if root in methods else ABSENT
-    if full == ABSENT:
-        raise Fault('missing', root)
-    printed = priced.printed_with(None if full == NEVER else full)
-    if certificate.bound != printed or (printed or 0) > MOST:
-        raise Fault('region', root)
-    return printed
+class Certified:
+    """a certificate beside a program: what is checked of it, and what is printed of its method"""
+
+    def __init__(self, priced, certificate, facts):
+        self.priced, self.certificate, self.facts = priced, certificate, facts
+        self.methods, self.is_paid = range(len(priced.program.coded)), certificate.version == 3
+
+    def check_prices(self):
+        """each price is of a fact; facts in an activation of the root aren't given"""
+        for m, u, _ in self.certificate.prices:
+            raise Fault('price', m, u)
+        for section in self.certificate.sections:
+            for u, header, _ in section.prices:
+                if (section.method, u, header) not in self.facts:
+                    raise Fault('price', section.method, u)
+
+    def values(self):
+        """the values of all sections"""
+        values = Values(self.priced)
+        for section in self.certificate.sections:
+            if section.method not in self.methods:
+                raise Fault('missing', section.method)
+            values.of_kind(section.kind)[section.method] = self.value(values, section)
+        return values
+
+    def value(self, values, section):
+        return SectionCheck(self.priced, values, section, Prices(section, self.facts), self.is_paid).value()
+
+    def printed(self):
+        """what is printed of the method, none for never, where no condition fails"""
+        self.check_prices()
+        values, root = self.values(), self.certificate.root
+        full = values.full(root) if root in self.methods else ABSENT
+        if full == ABSENT:
+            raise Fault('missing', root)
+        back = self.priced.callers_load(root) if self.is_paid else None
+        printed = self.priced.printed_with(None if full == NEVER else full, back)
+        if self.certificate.bound != printed or (printed or 0) > MOST:
+            raise Fault('region', root)
+        return printed
 
 
-def check(priced, certificate):
-    """the line that is answered to a certificate in its grammar"""
+def check(priced, certificate, facts=None):
+    """the line that is answered to a certificate in its grammar, by facts where some are given"""
     names = priced.program.names
     try:
-        printed = certified(priced, certificate)
+        printed = Certified(priced, certificate, facts or {}).printed()
     except Fault as fault:
         return fault.line(names)
     return 'holds %s %s' % (names[certificate.root], 'never' if printed is None else printed)

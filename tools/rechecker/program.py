@@ -23,7 +23,7 @@ class Program:
         self.coded, self.first_own = self.image.coded, len(core)
         self.number = {method: n for n, method in enumerate(self.coded)}
         self.names = [self.name(method) for method in self.coded]
-        self.selected, self.reached = {}, {}
+        self.selected, self.reached, self.begun = {}, {}, {}
         self.called = [self.calls(method) for method in self.coded]
         self.runs = [sorted({t for targets in calls.values() for t in targets}) for calls in self.called]
 
@@ -34,6 +34,12 @@ class Program:
 
     def body(self, n):
         return self.image.method(self.coded[n])['code']
+
+    def starts(self, n):
+        """the first bytes of a method's instructions by their places"""
+        if n not in self.begun:
+            self.begun[n] = {at: op for at, op, _ in instructions(self.body(n)['code'])}
+        return self.begun[n]
 
     def is_own(self, n):
         """whether the method is of the files' classes, or the one that starts the program"""
@@ -129,6 +135,10 @@ class Priced:
     def greatest_load(self):
         return max(self.load(m) for m in range(len(self.program.coded)))
 
+    def callers_load(self, root):
+        """the greatest load of a method that may call this one, 0 where none may"""
+        return max((self.load(m) for m, targets in enumerate(self.program.runs) if root in targets), default=0)
+
     def blocks(self, methods):
         return self.program.blocks(methods, self.timing.block_words)
 
@@ -148,6 +158,9 @@ class Priced:
         alone = ((m, self.blocks([m])) for m in range(len(self.program.coded)))
         return next((each for each in alone if each[1] > self.timing.blocks), None)
 
-    def printed_with(self, full):
-        """what is printed of a method by its number with all loads, none where it never ends"""
-        return None if full is None else COSTS.greatest_invoke(self.timing) + full + self.greatest_load()
+    def printed_with(self, full, back=None):
+        """what is printed of a method by its number with all loads, none where it never ends; behind it a load, which is the greatest one
+        where none is said"""
+        if full is None:
+            return None
+        return COSTS.greatest_invoke(self.timing) + full + (self.greatest_load() if back is None else back)

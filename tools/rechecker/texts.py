@@ -9,6 +9,8 @@ NUMBER = '(0|[1-9][0-9]*)'
 BOUND = re.compile(b'([^ \n]+) %b %b' % (NUMBER.encode(), b'loop<=' + NUMBER.encode()))
 NODE = re.compile(f'(node|raise) {NUMBER} (0|-?[1-9][0-9]*)')
 LOOP = re.compile(f'(loop|region) {NUMBER} {NUMBER}((?: (?:0|[1-9][0-9]*)r?)+)')
+PRICE = re.compile(f'price {NUMBER}(r?) {NUMBER}(?: per {NUMBER})?')
+ROOT_PRICE = re.compile(f'price {NUMBER} {NUMBER}(r?) {NUMBER}')
 MOST_METHOD, MOST_PLACE, MOST_BOUND = 2**32 - 1, 2**31 - 1, 2**32 - 1
 
 
@@ -44,10 +46,11 @@ def number_of(node):
 
 
 class Section:
-    """a kind, a method, nodes with their potentials, and loops: a word, a header, what an iteration costs, members"""
+    """a kind, a method, nodes with their potentials, loops: a word, a header, what an iteration costs, members; and prices of facts: a
+    node, the place of a header or none, what a visit gives back"""
 
-    def __init__(self, kind, method, nodes, loops):
-        self.kind, self.method, self.nodes, self.loops = kind, method, nodes, loops
+    def __init__(self, kind, method, nodes, loops, prices=()):
+        self.kind, self.method, self.nodes, self.loops, self.prices = kind, method, nodes, loops, list(prices)
 
     def lines(self):
         yield 'section %s %d' % (self.kind, self.method)
@@ -55,17 +58,22 @@ class Section:
             yield '%s %d %d' % ('raise' if u % 2 else 'node', u // 2, potential)
         for word, header, cost, members in self.loops:
             yield ' '.join([word, str(header // 2), str(cost), *map(shown, members)])
+        for u, header, price in self.prices:
+            yield 'price %s %d' % (shown(u), price) + ('' if header is None else ' per %d' % header)
 
 
 class Certificate:
-    """a version, the method that it is of, sections, and the last line's number, none where that is never"""
+    """a version, the method that it is of, sections, the last line's number, none where that is never, and prices of facts in an
+    activation of that method: a method, a node, what a visit gives back"""
 
-    def __init__(self, version, root, sections, bound):
-        self.version, self.root, self.sections, self.bound = version, root, sections, bound
+    def __init__(self, version, root, sections, bound, prices=()):
+        self.version, self.root, self.sections, self.bound, self.prices = version, root, sections, bound, list(prices)
 
     def lines(self):
         yield 'JOPC %d' % self.version
         yield 'root %d' % self.root
+        for m, u, price in self.prices:
+            yield 'price %d %s %d' % (m, shown(u), price)
         for section in self.sections:
             yield from section.lines()
         yield 'bound never' if self.bound is None else 'bound %d' % self.bound
@@ -89,18 +97,23 @@ def limited(text, most):
     return int(text)
 
 
-class Reader:
-    """reads a certificate line by line"""
+# The kinds of sections by version.
+KINDS = {1: ('inside', 'alone'), 2: ('inside', 'alone', 'loops'), 3: ('inside', 'loops')}
 
-    def __init__(self):
+
+class Reader:
+    """reads a certificate line by line, of version 3 only where facts are at hand"""
+
+    def __init__(self, versions):
+        self.versions = ['JOPC %d' % each for each in versions]
         self.version = self.root = self.bound = None
-        self.sections, self.seen, self.is_whole = [], set(), False
+        self.sections, self.seen, self.prices, self.is_whole = [], set(), [], False
 
     def take(self, line):
         """takes the next line"""
         require(not self.is_whole)
         if self.version is None:
-            require(line in ('JOPC 1', 'JOPC 2'))
+            require(line in self.versions)
             self.version = int(line[5:])
         elif self.root is None:
             require(line.startswith('root '))
@@ -110,19 +123,39 @@ class Reader:
             self.is_whole = True
         elif line.startswith('section '):
             self.take_section(line.split(' '))
+        elif self.version == 3 and line.startswith('price '):
+            self.take_price(line)
         else:
             require(self.sections)
             self.take_part(self.sections[-1], line)
 
     def take_section(self, words):
-        require(len(words) == 3 and words[1] in ('inside', 'alone', 'loops')[:self.version + 1])
+        require(len(words) == 3 and words[1] in KINDS[self.version])
         kind, method = words[1], limited(words[2], MOST_METHOD)
         require((method, kind == 'inside') not in self.seen)
         self.seen.add((method, kind == 'inside'))
         self.sections.append(Section(kind, method, [], []))
 
+    def take_price(self, line):
+        """a price of a fact: before all sections of one in an activation of the root, and else of the section's method"""
+        found = (PRICE if self.sections else ROOT_PRICE).fullmatch(line)
+        require(found)
+        if self.sections:
+            u = 2 * limited(found[1], MOST_PLACE) + (found[2] == 'r')
+            header = None if found[4] is None else limited(found[4], MOST_PLACE)
+            self.add_price(self.sections[-1].prices, (u, header, limited(found[3], MOST)), lambda each: (each[1] is not None, each[0], each[1] or 0))
+        else:
+            u = 2 * limited(found[2], MOST_PLACE) + (found[3] == 'r')
+            self.add_price(self.prices, (limited(found[1], MOST_METHOD), u, limited(found[4], MOST)), lambda each: each[:2])
+
+    def add_price(self, prices, price, order):
+        """a price behind others, which stand in their order"""
+        require(price[2] > 0 and (not prices or order(prices[-1]) < order(price)))
+        prices.append(price)
+
     def take_part(self, section, line):
         """a node or a loop of a section"""
+        require(not section.prices)
         node, loop = NODE.fullmatch(line), LOOP.fullmatch(line)
         require(node or loop)
         if node:
@@ -139,9 +172,9 @@ class Reader:
             section.loops.append((loop[1], header, cost, members))
 
 
-def read_certificate(text):
+def read_certificate(text, versions=(1, 2)):
     """the certificate of a text, or what is said of the first line that is refused"""
-    reader, lines = Reader(), lines_of(text)
+    reader, lines = Reader(versions), lines_of(text)
     for number, line in enumerate(lines, 1):
         try:
             reader.take(line)
@@ -149,4 +182,4 @@ def read_certificate(text):
             return 'bad cert line=%d' % number
     if not reader.is_whole:
         return 'bad cert line=%d' % (len(lines) + 1)
-    return Certificate(reader.version, reader.root, reader.sections, reader.bound)
+    return Certificate(reader.version, reader.root, reader.sections, reader.bound, reader.prices)
