@@ -54,6 +54,7 @@ def fetch(folder):
 def jars(package, room):
     """the jar files of a package, each once"""
     if not os.path.isdir(room):
+        os.makedirs(os.path.dirname(room), exist_ok=True)
         subprocess.run(["dpkg-deb", "-x", package, room], check=True)
     found = glob.glob(f"{room}/usr/share/**/*.jar", recursive=True)
     return sorted({os.path.realpath(jar) for jar in found if os.path.isfile(jar)})

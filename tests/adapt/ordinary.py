@@ -63,7 +63,7 @@ def compiled(calls, room):
     with open(path, "w", encoding="utf-8") as file:
         file.write("".join("\t".join(words) + "\n" for words in calls))
     compiler = os.path.join(TOP, "tests/expected/java/Compile.java")
-    done = subprocess.run(["java", compiler, path], capture_output=True, text=True, check=True)
+    done = subprocess.run(["java", "-XX:TieredStopAtLevel=1", "-XX:+UseSerialGC", compiler, path], capture_output=True, text=True, check=True)
     return {int(number): text for number, _, text in (line.partition("\t") for line in done.stdout.splitlines())}
 
 

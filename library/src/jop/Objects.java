@@ -47,6 +47,11 @@ public final class Objects {
         return Text.of("object");
     }
 
+    /** What `clone` of a class makes an object of that class for; by `tools/adapt`, where the first object is below it, a copy of that with its fields. */
+    public static Object ofKind(Object like, Object made) {
+        return made;
+    }
+
     private static void check(Object object) {
         if (object == null) {
             throw new NullPointerException();

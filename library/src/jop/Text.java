@@ -201,7 +201,7 @@ public final class Text implements Serializable, CharSequence, Comparable<Text>,
         return true;
     }
 
-    /** Equality without regard to the case of letters below 128. */
+    /** Equality without regard to the case of letters below 256. */
     public boolean equalsIgnoreCase(Text other) {
         return other != null && sameChars(lowered(chars()), lowered(other.chars()));
     }
@@ -523,7 +523,7 @@ public final class Text implements Serializable, CharSequence, Comparable<Text>,
         return substring(first, end);
     }
 
-    /** The letters A to Z as small ones; other chars stay. */
+    /** The letters below 256 as small ones; other chars stay. */
     public Text toLowerCase() {
         return new Text(null, lowered(chars()));
     }
@@ -531,22 +531,34 @@ public final class Text implements Serializable, CharSequence, Comparable<Text>,
     private static char[] lowered(char[] chars) {
         char[] copy = new char[chars.length];
         for (int i = 0; i < copy.length; i++) { //@WCA loop=64 elements
-            char each = chars[i];
-            copy[i] = each >= 'A' && each <= 'Z' ? (char) (each + 32) : each;
+            copy[i] = Character.toLowerCase(chars[i]);
         }
         return copy;
     }
 
-    /** The letters a to z as capitals; other chars stay. */
+    /** The letters below 256 as capitals, a sharp s as two; other chars stay. */
     public Text toUpperCase() {
-        char[] copy = toCharArray();
-        for (int i = 0; i < copy.length; i++) { //@WCA loop=64 elements
-            char each = copy[i];
-            if (each >= 'a' && each <= 'z') {
-                copy[i] = (char) (each - 32);
+        char[] mine = chars();
+        char[] copy = new char[mine.length + sharps(mine)];
+        int count = 0;
+        for (int i = 0; i < mine.length; i++) { //@WCA loop=64 elements
+            boolean isSharp = mine[i] == '\u00df';
+            copy[count] = isSharp ? 'S' : Character.toUpperCase(mine[i]);
+            count++;
+            if (isSharp) {
+                copy[count] = 'S';
+                count++;
             }
         }
         return new Text(null, copy);
+    }
+
+    private static int sharps(char[] chars) {
+        int count = 0;
+        for (int i = 0; i < chars.length; i++) { //@WCA loop=64 elements
+            count += chars[i] == '\u00df' ? 1 : 0;
+        }
+        return count;
     }
 
     @Override

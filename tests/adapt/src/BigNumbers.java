@@ -45,6 +45,71 @@ public class BigNumbers {
         }
     }
 
+    private static void bits(BigInteger one, BigInteger other, int place) {
+        System.out.println(one.and(other) + " " + one.or(other) + " " + one.xor(other) + " " + one.andNot(other) + " " + one.not());
+        System.out.println(one.setBit(place) + " " + one.clearBit(place) + " " + one.flipBit(place) + " " + one.getLowestSetBit() + " " + one.bitCount());
+    }
+
+    private static void modulo(BigInteger one, BigInteger exponent, BigInteger modulus) {
+        System.out.println(one.gcd(exponent) + " " + exponent.gcd(modulus) + " " + one.multiply(modulus).gcd(exponent.multiply(modulus)));
+        try {
+            System.out.println(one.modPow(exponent, modulus));
+        } catch (ArithmeticException raised) {
+            System.out.println("no power");
+        }
+        try {
+            BigInteger inverse = one.modInverse(modulus);
+            System.out.println(inverse + " " + inverse.multiply(one).mod(modulus));
+        } catch (ArithmeticException raised) {
+            System.out.println("no inverse");
+        }
+    }
+
+    private static void exact(BigInteger one) {
+        String told = "";
+        try {
+            told += one.longValueExact();
+            told += " " + one.intValueExact();
+            told += " " + one.shortValueExact();
+            told += " " + one.byteValueExact();
+        } catch (ArithmeticException raised) {
+            told += " no more";
+        }
+        System.out.println(told);
+    }
+
+    private static void moduli() {
+        for (int k = 0; k < 10; k++) {
+            bits(number(), number(), next(70));
+            modulo(number(), number(), number());
+        }
+        BigInteger zero = BigInteger.ZERO;
+        bits(zero, zero, 0);
+        bits(BigInteger.ONE.negate(), BigInteger.ONE.shiftLeft(64).negate(), 64);
+        modulo(zero, zero, BigInteger.ONE);
+        modulo(BigInteger.TWO, BigInteger.valueOf(-3), BigInteger.valueOf(7));
+        modulo(BigInteger.valueOf(-4), BigInteger.valueOf(5), BigInteger.ONE);
+        modulo(new BigInteger("1000000007"), new BigInteger("1000000007000000010000"), new BigInteger("170141183460469231731687303715884105727"));
+        // Neighbours of Fibonacci's numbers, of which each division takes away least.
+        BigInteger before = BigInteger.ONE;
+        BigInteger last = BigInteger.ONE;
+        for (int k = 0; k < 90; k++) {
+            BigInteger next = before.add(last);
+            before = last;
+            last = next;
+        }
+        modulo(before, last, last);
+        try {
+            zero.setBit(-1);
+        } catch (ArithmeticException raised) {
+            System.out.println("no bit");
+        }
+        for (int shift : new int[] {6, 7, 8, 15, 16, 31, 32, 62, 63, 64}) {
+            exact(BigInteger.ONE.shiftLeft(shift).subtract(BigInteger.ONE));
+            exact(BigInteger.ONE.shiftLeft(shift).negate());
+        }
+    }
+
     private static void reads(String text, int base) {
         try {
             System.out.println(new BigInteger(text, base));
@@ -66,6 +131,7 @@ public class BigNumbers {
         for (long each : edges) {
             System.out.println(BigInteger.valueOf(each) + " " + BigInteger.valueOf(each).longValue() + " " + BigInteger.valueOf(each).bitLength());
         }
+        moduli();
         BigInteger product = BigInteger.ONE;
         for (int k = 2; k < 30; k++) {
             product = product.multiply(BigInteger.valueOf(k));

@@ -35,8 +35,21 @@ public class TextForms {
         System.out.println(text.compareToIgnoreCase("ABAB") + " " + text.regionMatches(true, 0, "AB", 0, 2) + " " + text.regionMatches(false, 0, "AB", 0, 2));
     }
 
+    /** Each char below 256, small, as a capital, and with its neighbours. */
+    private static void cases() {
+        for (char each = 0; each < 256; each++) {
+            String text = "s" + each + (char) (each ^ 32);
+            String great = text.toUpperCase();
+            String small = text.toLowerCase();
+            System.out.print(great.length() + "," + (int) great.charAt(1) + "," + (int) small.charAt(1) + "," + great.hashCode() + small.hashCode()
+                + text.substring(1, 2).equalsIgnoreCase(text.substring(2)) + ";");
+        }
+        System.out.println();
+    }
+
     public static void main(String[] arguments) {
         formats();
+        cases();
         for (String text : new String[] {"", "a,b,,c,,", ",a", "a b\t c", "12,x3", "a.b.c", "[x]"}) {
             for (String pattern : new String[] {",", "\\s+", "[,.]", "\\.", ",\\s*", "[0-9]+", "[^a-z]", "\\w+", "\\D", ".", "[a-c_]x?", "\\[x\\]"}) {
                 splits(text, pattern);

@@ -1,3 +1,4 @@
+import java.util.ArrayDeque;
 import java.util.ArrayList;
 import java.util.Arrays;
 import java.util.Collection;
@@ -21,7 +22,7 @@ public class Views {
         }
     }
 
-    private static void unchanging(Collection<String> all) {
+    private static void refusing(Collection<String> all) {
         raised(() -> all.add("x"));
         raised(() -> all.remove("a"));
         raised(() -> all.addAll(Arrays.asList("y")));
@@ -31,6 +32,10 @@ public class Views {
             each.next();
             each.remove();
         });
+    }
+
+    private static void unchanging(Collection<String> all) {
+        refusing(all);
         System.out.println(all + " " + all.size() + all.isEmpty() + all.contains("a") + Arrays.toString(all.toArray()));
         for (String each : all) {
             System.out.print(each + ".");
@@ -56,6 +61,32 @@ public class Views {
         unchanging(Collections.singleton("a"));
         System.out.println(Collections.emptySet() + " " + Collections.emptySet().size() + Collections.unmodifiableSet(own).equals(own));
         System.out.println(Collections.synchronizedSet(own) + " " + Collections.synchronizedCollection(own) + Collections.synchronizedMap(new HashMap<>()));
+    }
+
+    private static void collections() {
+        List<String> own = new ArrayList<>(Arrays.asList("a", "b"));
+        Collection<String> shown = Collections.unmodifiableCollection(own);
+        refusing(shown);
+        own.add("c" + own.size());
+        System.out.println(shown + " " + shown.contains("c2") + shown.equals(own) + own.equals(shown) + Arrays.toString(shown.toArray(new String[0])));
+        unchangeable(Collections.unmodifiableCollection(new HashSet<>(own)));
+        unchangeable(Collections.unmodifiableCollection(new ArrayDeque<>(own)));
+        unchangeable(Collections.unmodifiableCollection(own.subList(1, 3)));
+        unchangeable(Collections.unmodifiableCollection(Collections.unmodifiableList(own)));
+        unchangeable(Collections.unmodifiableCollection(Collections.unmodifiableSet(new HashSet<>(own))));
+        unchangeable(Collections.unmodifiableCollection(shown));
+        Map<Integer, String> map = new HashMap<>();
+        map.put(3, "three");
+        unchangeable(Collections.unmodifiableCollection(map.values()));
+    }
+
+    private static void unchangeable(Collection<String> shown) {
+        refusing(shown);
+        System.out.print(shown + " " + shown.size() + shown.isEmpty() + shown.contains("a"));
+        for (String each : shown) {
+            System.out.print(" " + each);
+        }
+        System.out.println();
     }
 
     private static void maps() {
@@ -105,6 +136,7 @@ public class Views {
     public static void main(String[] arguments) {
         lists();
         sets();
+        collections();
         maps();
         defaults();
     }

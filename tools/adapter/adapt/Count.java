@@ -41,7 +41,7 @@ final class Count {
             System.out.println(entry.getFileName() + " methods=" + (methods - methodsBefore) + " adapted=" + (adapted - adaptedBefore));
         }
         System.out.println("all methods=" + methods + " adapted=" + adapted);
-        only.entrySet().stream().sorted(Map.Entry.<String, Integer>comparingByValue().reversed()).limit(40)
+        only.entrySet().stream().sorted(Map.Entry.<String, Integer>comparingByValue().reversed())
                 .forEach(entry -> System.out.println(entry.getValue() + " " + entry.getKey()));
     }
 

@@ -12,6 +12,11 @@ public class BigInteger extends Number implements Comparable<BigInteger>, Equals
     public static final BigInteger ZERO = new BigInteger(0, new int[0]);
     public static final BigInteger ONE = valueOf(1);
     public static final BigInteger TEN = valueOf(10);
+    public static final BigInteger TWO = valueOf(2);
+    private static final int AND = 0;
+    private static final int OR = 1;
+    private static final int XOR = 2;
+    private static final int AND_NOT = 3;
 
     private final int sign;
     /** The number without its sign. */
@@ -166,6 +171,169 @@ public class BigInteger extends Number implements Comparable<BigInteger>, Equals
             power = (exponent >>> bit & 1) == 0 ? power : power.multiply(this);
         }
         return power;
+    }
+
+    /** This to a power, modulo a number; the inverse to one where the exponent is negative. */
+    public BigInteger modPow(BigInteger exponent, BigInteger modulus) {
+        if (modulus.sign <= 0) {
+            throw new ArithmeticException();
+        }
+        BigInteger base = exponent.sign < 0 ? modInverse(modulus) : mod(modulus);
+        BigInteger power = ONE.mod(modulus);
+        for (int i = exponent.digits.length - 1; i >= 0; i--) { //@WCA loop=64 elements
+            power = power.raised(exponent.digits[i], base, modulus);
+        }
+        return power;
+    }
+
+    /** Goes on with 16 bits of an exponent, the highest first. */
+    private BigInteger raised(int bits, BigInteger base, BigInteger modulus) {
+        BigInteger power = this;
+        for (int bit = 15; bit >= 0; bit--) { //@WCA loop=16
+            power = power.multiply(power).mod(modulus);
+            power = (bits >>> bit & 1) == 0 ? power : power.multiply(base).mod(modulus);
+        }
+        return power;
+    }
+
+    /**
+     * The greatest number that divides both. A division takes away at least as much as in Fibonacci's numbers, so 25 of them are enough for each digit
+     * of 16 bits (Knuth, The Art of Computer Programming 4.5.3, L).
+     */
+    public BigInteger gcd(BigInteger other) {
+        BigInteger first = abs();
+        BigInteger second = other.abs();
+        for (int i = other.digits.length; i > 0; i--) { //@WCA loop=64 elements
+            for (int k = 0; k < 25 && second.sign != 0; k++) { //@WCA loop=25
+                BigInteger rest = first.remainder(second);
+                first = second;
+                second = rest;
+            }
+        }
+        return first;
+    }
+
+    /** The number from 0 to a modulus by which this one is 1 modulo that. Raises ArithmeticException where there is none. */
+    public BigInteger modInverse(BigInteger modulus) {
+        BigInteger first = modulus;
+        BigInteger second = mod(modulus);
+        BigInteger ofFirst = ZERO;
+        BigInteger ofSecond = ONE;
+        for (int i = modulus.digits.length; i > 0; i--) { //@WCA loop=64 elements
+            for (int k = 0; k < 25 && second.sign != 0; k++) { //@WCA loop=25
+                BigInteger[] both = first.divideAndRemainder(second);
+                first = second;
+                second = both[1];
+                BigInteger next = ofFirst.subtract(both[0].multiply(ofSecond));
+                ofFirst = ofSecond;
+                ofSecond = next;
+            }
+        }
+        if (!first.equals(ONE)) {
+            throw new ArithmeticException();
+        }
+        return ofFirst.mod(modulus);
+    }
+
+    public BigInteger and(BigInteger other) {
+        return joined(other, AND);
+    }
+
+    public BigInteger or(BigInteger other) {
+        return joined(other, OR);
+    }
+
+    public BigInteger xor(BigInteger other) {
+        return joined(other, XOR);
+    }
+
+    public BigInteger andNot(BigInteger other) {
+        return joined(other, AND_NOT);
+    }
+
+    public BigInteger not() {
+        return negate().subtract(ONE);
+    }
+
+    /** Both in two's complement, bit by bit. */
+    private BigInteger joined(BigInteger other, int way) {
+        boolean isNegative = joined(sign >> 1, other.sign >> 1, way) < 0;
+        int[] made = new int[Math.max(digits.length, other.digits.length)];
+        for (int i = 0; i < made.length; i++) { //@WCA loop=64 elements
+            int word = joined(word(i), other.word(i), way);
+            made[i] = (isNegative ? ~word : word) & 0xffff;
+        }
+        int[] trimmed = Digits16.trimmed(made);
+        return isNegative ? new BigInteger(-1, Digits16.add(trimmed, Digits16.of(1))) : new BigInteger(1, trimmed);
+    }
+
+    private static int joined(int bits, int others, int way) {
+        return way == AND ? bits & others : way == OR ? bits | others : way == XOR ? bits ^ others : bits & ~others;
+    }
+
+    public BigInteger setBit(int place) {
+        return or(ofBit(place));
+    }
+
+    public BigInteger clearBit(int place) {
+        return andNot(ofBit(place));
+    }
+
+    public BigInteger flipBit(int place) {
+        return xor(ofBit(place));
+    }
+
+    private static BigInteger ofBit(int place) {
+        if (place < 0) {
+            throw new ArithmeticException();
+        }
+        return ONE.shiftLeft(place);
+    }
+
+    /** The place of the lowest 1; -1 of 0. */
+    public int getLowestSetBit() {
+        for (int i = 0; i < digits.length; i++) { //@WCA loop=64 elements
+            if (digits[i] != 0) {
+                return 16 * i + Integer.numberOfTrailingZeros(digits[i]);
+            }
+        }
+        return -1;
+    }
+
+    /** How many bits of it in two's complement differ from its sign. */
+    public int bitCount() {
+        int[] counted = sign < 0 ? Digits16.subtract(digits, Digits16.of(1)) : digits;
+        int count = 0;
+        for (int i = 0; i < counted.length; i++) { //@WCA loop=64 elements
+            count += Integer.bitCount(counted[i]);
+        }
+        return count;
+    }
+
+    public int intValueExact() {
+        checkBits(31);
+        return intValue();
+    }
+
+    public long longValueExact() {
+        checkBits(63);
+        return longValue();
+    }
+
+    public short shortValueExact() {
+        checkBits(15);
+        return shortValue();
+    }
+
+    public byte byteValueExact() {
+        checkBits(7);
+        return byteValue();
+    }
+
+    private void checkBits(int count) {
+        if (bitLength() > count) {
+            throw new ArithmeticException();
+        }
     }
 
     public int compareTo(BigInteger other) {

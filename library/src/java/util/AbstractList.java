@@ -18,6 +18,11 @@ public abstract class AbstractList<E> implements List<E>, CollectionMethods, ToT
     @Override
     public abstract int size();
 
+    /** The element at a place, as iterations and searches find it: in a list that stands in an array the one there, though a class below it has another `get`. */
+    E elementOfIteration(int place) {
+        return get(place);
+    }
+
     @Override
     public E set(int place, E element) {
         throw new UnsupportedOperationException();
@@ -48,7 +53,7 @@ public abstract class AbstractList<E> implements List<E>, CollectionMethods, ToT
     public int indexOf(Object element) {
         int count = size();
         for (int i = 0; i < count; i++) { //@WCA loop=64 elements
-            if (Objects.equals(element, get(i))) {
+            if (Objects.equals(element, elementOfIteration(i))) {
                 return i;
             }
         }
@@ -58,7 +63,7 @@ public abstract class AbstractList<E> implements List<E>, CollectionMethods, ToT
     @Override
     public int lastIndexOf(Object element) {
         for (int i = size() - 1; i >= 0; i--) { //@WCA loop=64 elements
-            if (Objects.equals(element, get(i))) {
+            if (Objects.equals(element, elementOfIteration(i))) {
                 return i;
             }
         }
@@ -102,14 +107,33 @@ public abstract class AbstractList<E> implements List<E>, CollectionMethods, ToT
     public Object[] toArray() {
         Object[] all = new Object[size()];
         for (int i = 0; i < all.length; i++) { //@WCA loop=64 elements
-            all[i] = get(i);
+            all[i] = elementOfIteration(i);
         }
         return all;
     }
 
     @Override
     public Iterator<E> iterator() {
-        return new ListIteration<E>(this);
+        return new ListIteration<E>(this, 0);
+    }
+
+    @Override
+    public ListIterator<E> listIterator() {
+        return listIterator(0);
+    }
+
+    /** Begins in front of the element at a place. */
+    @Override
+    public ListIterator<E> listIterator(int place) {
+        checkStart(place, size());
+        return new ListIteration<E>(this, place);
+    }
+
+    /** Raises an exception where a list of so many elements has no such place, and doesn't end there. */
+    static void checkStart(int place, int count) {
+        if (place < 0 || place > count) {
+            throw new IndexOutOfBoundsException();
+        }
     }
 
     /** Raises an exception where a list of so many elements has no such part. */
@@ -141,7 +165,7 @@ public abstract class AbstractList<E> implements List<E>, CollectionMethods, ToT
             return false;
         }
         for (int i = 0; i < count; i++) { //@WCA loop=64 elements
-            if (!Objects.equals(get(i), list.get(i))) {
+            if (!Objects.equals(elementOfIteration(i), list.get(i))) {
                 return false;
             }
         }

@@ -21,7 +21,7 @@ final class ArrayAsList<E> extends AbstractList<E> implements RandomAccess {
 
     @Override
     public Iterator<E> iterator() {
-        return new ListIteration<E>(this) {
+        return new ListIteration<E>(this, 0) {
             @Override
             public void remove() {
                 throw new UnsupportedOperationException();

@@ -4,7 +4,7 @@ import java.io.Serializable;
 
 /** Elements with two ends, none of them null, in an array that is doubled where it is full. */
 public class ArrayDeque<E> extends AbstractCollection<E> implements Deque<E>, Cloneable, Serializable {
-    private final Ring<E> ring = new Ring<E>();
+    private Ring<E> ring = new Ring<E>();
 
     public ArrayDeque() {
     }
@@ -166,6 +166,13 @@ public class ArrayDeque<E> extends AbstractCollection<E> implements Deque<E>, Cl
     @Override
     public E peek() {
         return ring.peekFirst();
+    }
+
+    /** One of the same elements. */
+    public ArrayDeque<E> clone() {
+        ArrayDeque<E> copy = (ArrayDeque<E>) jop.Objects.ofKind(this, new ArrayDeque<E>());
+        copy.ring = ring.copied();
+        return copy;
     }
 
     @Override

@@ -45,8 +45,13 @@ public class ArrayList<E> extends AbstractList<E> implements RandomAccess, Clone
     }
 
     @Override
+    E elementOfIteration(int place) {
+        return (E) elements[place < count ? place : -1];
+    }
+
+    @Override
     public E set(int place, E element) {
-        E old = get(place);
+        E old = elementOfIteration(place);
         elements[place] = element;
         return old;
     }
@@ -74,12 +79,49 @@ public class ArrayList<E> extends AbstractList<E> implements RandomAccess, Clone
 
     @Override
     public E remove(int place) {
-        E old = get(place);
+        E old = elementOfIteration(place);
+        close(place);
+        return old;
+    }
+
+    @Override
+    public boolean remove(Object element) {
+        for (int i = 0; i < count; i++) { //@WCA loop=64 elements
+            if (Objects.equals(element, elements[i])) {
+                close(i);
+                return true;
+            }
+        }
+        return false;
+    }
+
+    /** Takes the element at a place away. */
+    private void close(int place) {
         modCount++;
         count--;
         Copies.copy(elements, place + 1, elements, place, count - place);
         elements[count] = null;
-        return old;
+    }
+
+    /** Adds the elements behind the last one, in their order. */
+    @Override
+    public boolean addAll(Collection<? extends E> added) {
+        Object[] all = added.toArray();
+        modCount++;
+        ensureCapacity(count + all.length);
+        Copies.copy(all, 0, elements, count, all.length);
+        count += all.length;
+        return all.length > 0;
+    }
+
+    /** A list of the same elements. */
+    public Object clone() {
+        ArrayList<E> copy = (ArrayList<E>) jop.Objects.ofKind(this, new ArrayList<E>(0));
+        copy.elements = new Object[count];
+        Copies.copy(elements, 0, copy.elements, 0, count);
+        copy.count = count;
+        copy.modCount = 0;
+        return copy;
     }
 
     @Override

@@ -39,6 +39,26 @@ public final class Collections {
         return new UnmodifiableMap<K, V>(held);
     }
 
+    /**
+     * Elements that are shown, and can't be changed. Raises UnsupportedOperationException for those of what isn't below AbstractCollection or AbstractList,
+     * nor unmodifiable.
+     */
+    public static <T> Collection<T> unmodifiableCollection(Collection<? extends T> all) {
+        Objects.requireNonNull(all);
+        if (all instanceof UnmodifiableCollection) {
+            return (Collection<T>) all;
+        }
+        Collection<?> held = all instanceof UnmodifiableList ? ((UnmodifiableList<?>) all).inner
+            : all instanceof UnmodifiableSet ? ((UnmodifiableSet<?>) all).inner : all;
+        if (held instanceof AbstractList) {
+            return new UnmodifiableCollection<T>(new ListAsCollection<T>((AbstractList<T>) held));
+        }
+        if (!(held instanceof AbstractCollection)) {
+            throw new UnsupportedOperationException();
+        }
+        return new UnmodifiableCollection<T>((AbstractCollection<T>) held);
+    }
+
     /** A list that shows another one, and can't be changed. Raises UnsupportedOperationException for one that isn't below AbstractList. */
     public static <T> List<T> unmodifiableList(List<? extends T> list) {
         Objects.requireNonNull(list);

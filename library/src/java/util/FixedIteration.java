@@ -1,9 +1,9 @@
 package java.util;
 
 /** Elements one after another, of which none can be removed. */
-final class FixedIteration<E> implements Iterator<E> {
-    private final Object[] elements;
-    private int place;
+class FixedIteration<E> implements Iterator<E> {
+    final Object[] elements;
+    int place;
 
     FixedIteration(Object[] elements) {
         this.elements = elements;

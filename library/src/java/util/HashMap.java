@@ -35,7 +35,7 @@ public class HashMap<K, V> implements Map<K, V>, Cloneable, Serializable, Collec
     }
 
     public HashMap(Map<? extends K, ? extends V> entries) {
-        putAll(entries);
+        putEntries(entries);
     }
 
     /** The least power of two that isn't below a number. Raises IllegalStateException where a map has no so many cells. */
@@ -83,6 +83,10 @@ public class HashMap<K, V> implements Map<K, V>, Cloneable, Serializable, Collec
 
     @Override
     public V put(K key, V value) {
+        return putEntry(key, value);
+    }
+
+    private V putEntry(K key, V value) {
         HashMapEntry<K, V> found = entry(key);
         if (found != null) {
             return found.setValue(value);
@@ -232,6 +236,21 @@ public class HashMap<K, V> implements Map<K, V>, Cloneable, Serializable, Collec
 
     @Override
     public void putAll(Map<? extends K, ? extends V> entries) {
+        putEntries(entries);
+    }
+
+    /** A map of the same entries. */
+    public Object clone() {
+        HashMap<K, V> copy = (HashMap<K, V>) jop.Objects.ofKind(this, new HashMap<K, V>());
+        copy.cells = null;
+        copy.first = 0;
+        copy.count = 0;
+        copy.modCount = 0;
+        copy.putEntries(this);
+        return copy;
+    }
+
+    private void putEntries(Map<? extends K, ? extends V> entries) {
         int added = entries.size();
         if (added == 0) {
             return;
@@ -247,7 +266,7 @@ public class HashMap<K, V> implements Map<K, V>, Cloneable, Serializable, Collec
         Object[] all = entries.entrySet().toArray();
         for (int i = 0; i < all.length; i++) { //@WCA loop=64 elements
             Map.Entry<K, V> entry = (Map.Entry<K, V>) all[i];
-            put(entry.getKey(), entry.getValue());
+            putEntry(entry.getKey(), entry.getValue());
         }
     }
 

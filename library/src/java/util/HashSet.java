@@ -4,7 +4,7 @@ import java.io.Serializable;
 
 /** Elements of which no two are equal: the keys of a HashMap. */
 public class HashSet<E> extends AbstractSet<E> implements Cloneable, Serializable {
-    private final HashMap<E, Object> map;
+    private HashMap<E, Object> map;
 
     public HashSet() {
         map = new HashMap<E, Object>();
@@ -42,6 +42,13 @@ public class HashSet<E> extends AbstractSet<E> implements Cloneable, Serializabl
     @Override
     public boolean remove(Object element) {
         return map.remove(element) != null;
+    }
+
+    /** A set of the same elements. */
+    public Object clone() {
+        HashSet<E> copy = (HashSet<E>) jop.Objects.ofKind(this, new HashSet<E>());
+        copy.map = (HashMap<E, Object>) map.clone();
+        return copy;
     }
 
     @Override

@@ -4,7 +4,7 @@ import java.io.Serializable;
 
 /** A list with two ends. It stands in an array that is doubled where it is full, so that any place is found at once. */
 public class LinkedList<E> extends AbstractList<E> implements Deque<E>, Cloneable, Serializable {
-    private final Ring<E> ring = new Ring<E>();
+    private Ring<E> ring = new Ring<E>();
 
     public LinkedList() {
     }
@@ -19,12 +19,28 @@ public class LinkedList<E> extends AbstractList<E> implements Deque<E>, Cloneabl
     }
 
     @Override
+    public Iterator<E> iterator() {
+        return listIterator(0);
+    }
+
+    @Override
+    public ListIterator<E> listIterator(int place) {
+        checkStart(place, size());
+        return new LinkedListIteration<E>(this, place);
+    }
+
+    @Override
     public Iterator<E> descendingIterator() {
         return new RingIteration<E>(ring, true);
     }
 
     @Override
     public E get(int place) {
+        return ring.get(place);
+    }
+
+    @Override
+    E elementOfIteration(int place) {
         return ring.get(place);
     }
 
@@ -183,6 +199,29 @@ public class LinkedList<E> extends AbstractList<E> implements Deque<E>, Cloneabl
     @Override
     public E peek() {
         return ring.peekFirst();
+    }
+
+    /** A list of the same elements. */
+    public Object clone() {
+        LinkedList<E> copy = (LinkedList<E>) jop.Objects.ofKind(this, new LinkedList<E>());
+        copy.ring = new Ring<E>();
+        copy.modCount = 0;
+        Object[] all = ring.toArray();
+        for (int i = 0; i < all.length; i++) { //@WCA loop=64 elements
+            copy.add((E) all[i]);
+        }
+        return copy;
+    }
+
+    /** Adds the elements behind the last one, in their order. */
+    @Override
+    public boolean addAll(Collection<? extends E> elements) {
+        Object[] added = elements.toArray();
+        for (int i = 0; i < added.length; i++) { //@WCA loop=64 elements
+            ring.addLast((E) added[i]);
+        }
+        modCount += added.length == 0 ? 0 : 1;
+        return added.length > 0;
     }
 
     @Override

@@ -14,5 +14,9 @@ public interface List<E> extends Collection<E> {
 
     int lastIndexOf(Object element);
 
+    ListIterator<E> listIterator();
+
+    ListIterator<E> listIterator(int place);
+
     List<E> subList(int first, int end);
 }

@@ -1,15 +1,17 @@
 package java.util;
 
-/** The elements of a list one after another; a change meanwhile is told. */
-class ListIteration<E> implements Iterator<E> {
+/** The elements of a list one after another, in both directions; a change meanwhile is told. */
+class ListIteration<E> implements ListIterator<E> {
     private final AbstractList<E> list;
     private int changes;
     private int place;
-    /** The place of the element that `next` gave and that wasn't removed; -1 where there is none. */
+    /** The place of the element that `next` or `previous` gave and that wasn't removed; -1 where there is none. */
     private int last = -1;
 
-    ListIteration(AbstractList<E> list) {
+    /** Begins in front of the element at a place. */
+    ListIteration(AbstractList<E> list, int place) {
         this.list = list;
+        this.place = place;
         changes = list.modCount;
     }
 
@@ -24,25 +26,72 @@ class ListIteration<E> implements Iterator<E> {
         if (place >= list.size()) {
             throw new NoSuchElementException();
         }
-        E element = list.get(place);
+        E element = list.elementOfIteration(place);
         last = place;
         place++;
         return element;
     }
 
     @Override
-    public void remove() {
-        if (last < 0) {
-            throw new IllegalStateException();
-        }
+    public boolean hasPrevious() {
+        return place != 0;
+    }
+
+    @Override
+    public E previous() {
         checkChanges();
+        if (place <= 0) {
+            throw new NoSuchElementException();
+        }
+        E element = list.elementOfIteration(place - 1);
+        place--;
+        last = place;
+        return element;
+    }
+
+    @Override
+    public int nextIndex() {
+        return place;
+    }
+
+    @Override
+    public int previousIndex() {
+        return place - 1;
+    }
+
+    @Override
+    public void remove() {
+        checkGiven();
         list.remove(last);
         place = last;
         last = -1;
         changes = list.modCount;
     }
 
-    private void checkChanges() {
+    @Override
+    public void set(E element) {
+        checkGiven();
+        list.set(last, element);
+        changes = list.modCount;
+    }
+
+    @Override
+    public void add(E element) {
+        checkChanges();
+        list.add(place, element);
+        place++;
+        last = -1;
+        changes = list.modCount;
+    }
+
+    private void checkGiven() {
+        if (last < 0) {
+            throw new IllegalStateException();
+        }
+        checkChanges();
+    }
+
+    final void checkChanges() {
         if (changes != list.modCount) {
             throw new ConcurrentModificationException();
         }

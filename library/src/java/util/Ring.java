@@ -6,6 +6,15 @@ final class Ring<E> {
     private int first;
     private int count;
 
+    /** Another one of the same elements. */
+    Ring<E> copied() {
+        Ring<E> copy = new Ring<E>();
+        copy.elements = new Object[elements.length];
+        put(copy.elements);
+        copy.count = count;
+        return copy;
+    }
+
     int size() {
         return count;
     }

@@ -12,7 +12,8 @@ final class SubList<E> extends AbstractCollection<E> implements List<E>, RandomA
     private final AbstractList<E> inner;
     private final int first;
     int count;
-    private int changes;
+    /** How often elements of the whole list were added or removed when this one was made, or changed last. */
+    int changes;
 
     SubList(AbstractList<E> inner, int first, int end) {
         this.inner = inner;
@@ -133,7 +134,18 @@ final class SubList<E> extends AbstractCollection<E> implements List<E>, RandomA
     @Override
     public Iterator<E> iterator() {
         checkChanges();
-        return new SubListIteration<E>(this);
+        return new SubListIteration<E>(this, 0);
+    }
+
+    @Override
+    public ListIterator<E> listIterator() {
+        return listIterator(0);
+    }
+
+    @Override
+    public ListIterator<E> listIterator(int place) {
+        AbstractList.checkStart(place, size());
+        return new SubListIteration<E>(this, place);
     }
 
     /** Whether the other object is a list of equal elements. */

@@ -6,7 +6,7 @@ import jop.ToTextMethod;
 
 /** Shows a list that can't be changed by this one. It isn't below AbstractList, so that none of these goes on to another one. */
 final class UnmodifiableList<E> implements List<E>, RandomAccess, CollectionMethods, ToTextMethod {
-    private final AbstractList<E> inner;
+    final AbstractList<E> inner;
 
     UnmodifiableList(AbstractList<E> inner) {
         this.inner = inner;
@@ -100,6 +100,18 @@ final class UnmodifiableList<E> implements List<E>, RandomAccess, CollectionMeth
     @Override
     public int lastIndexOf(Object element) {
         return inner.lastIndexOf(element);
+    }
+
+    @Override
+    public ListIterator<E> listIterator() {
+        return listIterator(0);
+    }
+
+    /** The elements that there are now. */
+    @Override
+    public ListIterator<E> listIterator(int place) {
+        AbstractList.checkStart(place, inner.size());
+        return new FixedListIteration<E>(inner.toArray(), place);
     }
 
     /** The elements that there are now. */

@@ -9,7 +9,7 @@ final class UnmodifiableSet<E> implements Set<E>, CollectionMethods, ToTextMetho
     /** One without elements. */
     static final Set EMPTY = new UnmodifiableSet<Object>(new HashSet<Object>(1));
 
-    private final AbstractSet<E> inner;
+    final AbstractSet<E> inner;
 
     UnmodifiableSet(AbstractSet<E> inner) {
         this.inner = inner;

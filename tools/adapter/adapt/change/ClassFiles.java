@@ -65,12 +65,23 @@ final class ClassFiles {
     static void addMaking(MethodVisitor to, String name, String field, boolean isText) {
         to.visitTypeInsn(Opcodes.NEW, CLASS);
         to.visitInsn(Opcodes.DUP);
+        addName(to, name, isText);
+        to.visitMethodInsn(Opcodes.INVOKESPECIAL, CLASS, "<init>", isText ? "(Ljop/Text;)V" : "(Ljava/lang/String;)V", false);
+        to.visitFieldInsn(Opcodes.PUTSTATIC, TABLE, field, TYPE);
+    }
+
+    private static void addName(MethodVisitor to, String name, boolean isText) {
         to.visitLdcInsn(name);
         if (isText) {
             to.visitMethodInsn(Opcodes.INVOKESTATIC, "jop/Text", "of", "(Ljava/lang/String;)Ljop/Text;", false);
         }
-        to.visitMethodInsn(Opcodes.INVOKESPECIAL, CLASS, "<init>", isText ? "(Ljop/Text;)V" : "(Ljava/lang/String;)V", false);
-        to.visitFieldInsn(Opcodes.PUTSTATIC, TABLE, field, TYPE);
+    }
+
+    /** Keeps in the object of a class the name that the source gives it. */
+    static void addSimpleName(MethodVisitor to, String field, String name, boolean isText) {
+        to.visitFieldInsn(Opcodes.GETSTATIC, TABLE, field, TYPE);
+        addName(to, name, isText);
+        to.visitFieldInsn(Opcodes.PUTFIELD, CLASS, ClassOfClasses.SIMPLE_NAME, isText ? "Ljop/Text;" : "Ljava/lang/String;");
     }
 
     /** Keeps in the object of a class its number, and the digits that tell which classes it is, or stands below. */

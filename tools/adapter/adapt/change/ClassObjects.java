@@ -17,6 +17,7 @@ import org.objectweb.asm.Type;
 import org.objectweb.asm.tree.AbstractInsnNode;
 import org.objectweb.asm.tree.FieldInsnNode;
 import org.objectweb.asm.tree.FieldNode;
+import org.objectweb.asm.tree.InnerClassNode;
 import org.objectweb.asm.tree.LdcInsnNode;
 import org.objectweb.asm.tree.MethodInsnNode;
 import org.objectweb.asm.tree.MethodNode;
@@ -91,7 +92,22 @@ public final class ClassObjects implements Change {
         if (reach.isRun(program.find(ClassOfClasses.NAME).method("isAssignableFrom", ClassOfClasses.IS_ASSIGNABLE))) {
             addOrder(initialiser);
         }
+        if (reach.isRun(program.find(ClassOfClasses.NAME).method("getSimpleName", program.isText ? "()Ljop/Text;" : "()Ljava/lang/String;"))) {
+            fields.forEach((name, field) -> ClassFiles.addSimpleName(initialiser, field.name, simpleName(name), program.isText));
+        }
         initialiser.visitInsn(Opcodes.RETURN);
+    }
+
+    /** The name that the source gives a class or an array class: none of one without a name, that within its class of one in another class. */
+    private String simpleName(String name) {
+        if (name.startsWith("[")) {
+            Type element = Type.getType(name).getElementType();
+            String shown = element.getSort() == Type.OBJECT ? simpleName(element.getInternalName()) : element.getClassName();
+            return shown + "[]".repeat(name.lastIndexOf('[') + 1);
+        }
+        List<InnerClassNode> own = program.find(name).node.innerClasses;
+        String shown = own.isEmpty() ? shown(name) : own.get(0).innerName == null ? "" : own.get(0).innerName;
+        return shown.substring(shown.lastIndexOf('.') + 1);
     }
 
     /** Tells each object which classes its own one is, or stands below. */

@@ -26,11 +26,15 @@ import org.objectweb.asm.tree.MethodNode;
 import org.objectweb.asm.tree.TypeInsnNode;
 import org.objectweb.asm.tree.VarInsnNode;
 
-/** `super.clone()` of Object: a static method that asks for the class of the object, and makes another one by a constructor that copies the fields. */
+/**
+ * `super.clone()` of Object: a static method that asks for the class of the object, and makes another one by a constructor that copies the fields. In place of
+ * `jop/Objects.ofKind`, by which the library's own `clone` makes an object of its class: such a method for the classes below that one.
+ */
 public final class SuperClones implements Change {
     /** The class of the last argument of a constructor that copies, so that no other one is like it; the argument is null. */
     private static final String COPY = "jop/made/Copy";
     private static final String CLONE = "()Ljava/lang/Object;";
+    private static final String OF_KIND = "(Ljava/lang/Object;Ljava/lang/Object;)Ljava/lang/Object;";
     private static final String FAULT = "java/lang/CloneNotSupportedException";
     private final Program program;
     private final Reach reach;
@@ -50,7 +54,43 @@ public final class SuperClones implements Change {
                 MethodNode helper = helpers.computeIfAbsent(owner, key -> helper(owner, method, call));
                 program.report.replace(Code.place(owner, method, node), "super.clone()", owner.name() + "." + helper.name);
                 method.instructions.set(call, Code.invokeStatic(owner.name(), helper.name, helper.desc));
+            } else if (Code.isCall(node, "jop/Objects", "ofKind", OF_KIND)) {
+                MethodNode helper = Code.addHelper(owner, "copyObject", OF_KIND);
+                addPlain(helper);
+                reach.atEnd(() -> fill(helper, owner));
+                method.instructions.set(node, Code.invokeStatic(owner.name(), helper.name, helper.desc));
             }
+        }
+    }
+
+    /** Gives the second argument. */
+    private static void addPlain(MethodNode to) {
+        to.visitVarInsn(Opcodes.ALOAD, 1);
+        to.visitInsn(Opcodes.ARETURN);
+    }
+
+    /** Copies of the first argument where its class is below one of the library, else the second one. */
+    private void fill(MethodNode helper, LoadedClass owner) {
+        List<LoadedClass> below = below(owner);
+        below.remove(owner);
+        helper.instructions.clear();
+        if (!below.isEmpty()) {
+            makeMark();
+            reach.name(COPY);
+        }
+        below.forEach(each -> addTest(helper, each));
+        addPlain(helper);
+    }
+
+    /** Makes the class of the last argument, where it isn't there. */
+    private void makeMark() {
+        if (program.find(COPY) == null) {
+            ClassNode node = new ClassNode();
+            node.version = Opcodes.V1_8;
+            node.name = COPY;
+            node.superName = CoreClasses.OBJECT;
+            node.access = Opcodes.ACC_PUBLIC | Opcodes.ACC_SYNTHETIC | Opcodes.ACC_INTERFACE | Opcodes.ACC_ABSTRACT;
+            program.make(node);
         }
     }
 
@@ -62,14 +102,7 @@ public final class SuperClones implements Change {
 
     /** A method that raises an exception until it is filled at the end. */
     private MethodNode helper(LoadedClass owner, MethodNode method, MethodInsnNode call) {
-        if (copied.isEmpty() && program.find(COPY) == null) {
-            ClassNode node = new ClassNode();
-            node.version = Opcodes.V1_8;
-            node.name = COPY;
-            node.superName = CoreClasses.OBJECT;
-            node.access = Opcodes.ACC_PUBLIC | Opcodes.ACC_SYNTHETIC | Opcodes.ACC_INTERFACE | Opcodes.ACC_ABSTRACT;
-            program.make(node);
-        }
+        makeMark();
         MethodNode helper = Code.addHelper(owner, "copyObject", "(L" + owner.name() + ";)Ljava/lang/Object;");
         addFault(helper);
         Place place = Code.place(owner, method, call);

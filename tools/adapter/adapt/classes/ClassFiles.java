@@ -49,7 +49,7 @@ final class ClassFiles {
         node.visibleTypeAnnotations = null;
         node.invisibleTypeAnnotations = null;
         node.attrs = null;
-        node.innerClasses.clear();
+        node.innerClasses.removeIf(each -> !each.name.equals(node.name));
         node.outerClass = null;
         node.outerMethod = null;
         node.outerMethodDesc = null;

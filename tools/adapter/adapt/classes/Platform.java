@@ -14,12 +14,17 @@ import org.objectweb.asm.tree.VarInsnNode;
 import org.objectweb.asm.tree.MethodInsnNode;
 import org.objectweb.asm.tree.InsnNode;
 
-/** Classes of the Java virtual machine on which this runs: what they are called and what they stand below, nothing else of theirs. */
+/** Classes of the Java virtual machine on which this runs: what they are called, what they stand below, and which methods without code interfaces have. */
 public final class Platform {
+    /** How the names of the classes of the standard library begin. */
+    private static final List<String> STANDARD = List.of("java/", "javax/", "org/w3c/dom/", "org/xml/sax/");
+    /** What each object has, whatever an interface says. */
+    private static final List<String> OF_OBJECT = List.of("equals(Ljava/lang/Object;)Z", "hashCode()I", "toString()Ljava/lang/String;");
+
     private Platform() {
     }
 
-    /** A class without members of a name that the platform has, or null; an exception has its plain constructors. */
+    /** A class without members of a name that the platform has, or null; an exception has its plain constructors, an interface its methods without code. */
     static ClassNode find(String name) {
         ClassNode from = read(name);
         if (from == null) {
@@ -31,11 +36,20 @@ public final class Platform {
         node.superName = from.superName;
         node.interfaces = from.interfaces;
         node.access = from.access & (Opcodes.ACC_PUBLIC | Opcodes.ACC_ABSTRACT | Opcodes.ACC_INTERFACE | Opcodes.ACC_SUPER);
+        if ((from.access & Opcodes.ACC_INTERFACE) != 0) {
+            from.methods.stream().filter(Platform::isOfImplementers)
+                    .forEach(method -> node.methods.add(new MethodNode(method.access, method.name, method.desc, null, null)));
+        }
         if (isThrowable(from)) {
             addConstructor(node, from, "()V");
             addConstructor(node, from, "(Ljava/lang/String;)V");
         }
         return node;
+    }
+
+    /** Whether the classes that implement an interface have the method, and not each object. */
+    private static boolean isOfImplementers(MethodNode method) {
+        return (method.access & Opcodes.ACC_ABSTRACT) != 0 && !OF_OBJECT.contains(method.name + method.desc);
     }
 
     /** The class of the platform that has a method or a field which was found nowhere, where there is one; else the class that was named. */
@@ -63,7 +77,7 @@ public final class Platform {
 
     private static ClassNode read(String name) {
         try (InputStream in = ClassLoader.getSystemResourceAsStream(name + ".class")) {
-            if (in == null || !name.startsWith("java")) {
+            if (in == null || STANDARD.stream().noneMatch(name::startsWith)) {
                 return null;
             }
             ClassNode node = new ClassNode();

@@ -162,11 +162,42 @@ final class References {
         }
         String shown = member.equals(".toText") ? ".toString" : member;
         String lacking = Platform.declaring(program, of, member.substring(1), descriptor);
-        refuse(owner, method, at, lacking + shown, Instead.of(lacking, shown));
+        String instead = Instead.of(lacking, shown);
+        if (at.getOpcode() == Opcodes.INVOKEVIRTUAL && isNeverMade(lacking)) {
+            declareHead(program.find(lacking), member.substring(1), descriptor);
+            program.report.refuseWithOthers(placeOf(owner, method, at), formOf(owner, lacking + shown), instead);
+        } else {
+            refuse(owner, method, at, lacking + shown, instead);
+        }
+    }
+
+    /** Whether no object is of a class or below it, but by what is refused: a class of the platform, whose constructors nobody can call. */
+    private boolean isNeverMade(String name) {
+        LoadedClass found = program.find(name);
+        return found != null && found.origin == Origin.PLATFORM && !found.isInterface() && !program.isBelow(found, CoreClasses.THROWABLE);
+    }
+
+    /** Lets a class have a method that is named and never run. */
+    private void declareHead(LoadedClass of, String name, String descriptor) {
+        if (of.method(name, descriptor) == null) {
+            of.add(new MethodNode(Opcodes.ACC_PUBLIC, name, descriptor, null, null));
+        }
+        reach.declare(of, of.method(name, descriptor));
     }
 
     private void refuse(LoadedClass owner, MethodNode method, AbstractInsnNode at, String form, String instead) {
-        boolean isOwn = owner.origin == Origin.PROGRAM || reach.place() == null;
-        program.report.refuse(isOwn ? Place.of(owner.node, method, at) : reach.place(), isOwn ? form : form + " (of " + owner.name() + ")", instead);
+        program.report.refuse(placeOf(owner, method, at), formOf(owner, form), instead);
+    }
+
+    private boolean isOwn(LoadedClass owner) {
+        return owner.origin == Origin.PROGRAM || reach.place() == null;
+    }
+
+    private Place placeOf(LoadedClass owner, MethodNode method, AbstractInsnNode at) {
+        return isOwn(owner) ? Place.of(owner.node, method, at) : reach.place();
+    }
+
+    private String formOf(LoadedClass owner, String form) {
+        return isOwn(owner) ? form : form + " (of " + owner.name() + ")";
     }
 }

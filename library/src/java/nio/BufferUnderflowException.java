@@ -1,0 +1,7 @@
+package java.nio;
+
+/** A buffer has fewer elements. */
+public class BufferUnderflowException extends RuntimeException {
+    public BufferUnderflowException() {
+    }
+}
