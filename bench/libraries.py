@@ -39,6 +39,7 @@ sys.path.append(f"{TOP}/tests/adapt")
 import ordinary  # noqa: E402
 from caller import Caller  # noqa: E402
 from costs import Timing  # noqa: E402
+import traces  # noqa: E402
 
 TEXT = bytes(97 + (k * k >> 3) % 23 if k % 7 else 65 + k % 3 for k in range(700))
 LZMA1 = [{"id": lzma.FILTER_LZMA1, "dict_size": 4096, "lc": 3, "lp": 0, "pb": 2}]
@@ -125,7 +126,7 @@ class Tried(activations.Tried):
 
     def trace(self, caller, timing):
         answer = caller.call(["trace", "--memory", "4000000", *activations.options(timing), "image"], self.given)
-        return activations.activations(answer.out.decode())
+        return traces.activations(answer.out.decode())
 
 
 def adapted(room, name, answer):
