@@ -1,0 +1,4 @@
+pub mod Addresses
+mod ByteWords
+mod Conditions
+mod Taken

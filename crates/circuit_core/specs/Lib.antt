@@ -1,0 +1,4 @@
+pub mod Decoding
+pub mod Standing
+pub mod Choices
+pub mod Places
