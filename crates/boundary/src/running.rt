@@ -127,6 +127,7 @@ impl<'a, const N: usize> Running<'a, N> {
     /// Goes on to the next boundary: by an instruction, or by one frame in which a handler is looked for. At the end, and
     /// after a fault, it answers that again; then nothing changes. After a fault of `input` or `output` the machine is about
     /// to make that call; after one of `seen` it stands where it was handed.
+    #[inline(always)]
     pub fn bytecode<D: Devices>(&mut self, device: &mut D) -> Result<Boundary, DeviceFault>
         requires clock { self.old.machine.clock < 2 ^ 63 }
         ensures steps { goes self.old ≡ true → StepsAll self.old.machine self.new.machine (D.told device.old) (D.told device.new) result }
@@ -168,6 +169,7 @@ fn is_raise(mode: Result<Boundary, DeviceFault>) -> bool
 }
 
 /// Goes on from an instruction or a raise, up to the next boundary.
+#[inline(always)]
 fn go_on<const N: usize, D: Devices>(
     machine: &mut Machine<N>,
     device: &mut D,
