@@ -7,7 +7,7 @@ use Rattle.answer_lines.specs.declared.line.SlotCounts.{SlotCounts}
 use Rattle.answer_lines.specs.declared.line.Line.{Line}
 use Rattle.answer_lines.specs.declared.line.Line.TheVariants.{Ended, Uncaught, Spent, Linked, Usage, TooBig, BadImage, Differs, MethodTooLong, MemoryTooSmall}
 use Rattle.answer_lines.specs.declared.line.Line.TheVariants.{CycleEnded, CycleUncaught, CycleSpent}
-use Rattle.answer_lines.specs.declared.line.Line.TheVariants.{Link, Asm, ReadFault, WriteFault, NoMemory}
+use Rattle.answer_lines.specs.declared.line.Line.TheVariants.{NoCircuit, Link, Asm, ReadFault, WriteFault, NoMemory}
 use Rattle.answer_lines.specs.declared.line.LinkLine.{LinkLine}
 use Rattle.answer_lines.specs.declared.line.LinkLine.TheVariants.{BadClass, UnsupportedVersion, Duplicate, Unsupported, Unresolved, BadHierarchy, NoMain}
 use Rattle.answer_lines.specs.declared.line.LinkLine.TheVariants.{NotVerified, TooLarge}
@@ -105,6 +105,7 @@ parts_of (Differs word kept linked) = codes "differs word=" ∷ decimal word ∷
 parts_of (MethodTooLong name blocks limit) = codes "method too long " ∷ name.now ∷ codes " blocks=" ∷ decimal blocks ∷ codes " limit=" ∷ decimal limit
     ∷ codes "\n" ∷ []
 parts_of (MemoryTooSmall words given) = codes "memory too small words=" ∷ decimal words ∷ codes " given=" ∷ decimal given ∷ codes "\n" ∷ []
+parts_of NoCircuit = codes "rtl: no circuit\n" ∷ []
 parts_of (Link refusal) = link_parts refusal
 parts_of (Asm refusal) = asm_parts refusal
 parts_of ReadFault = codes "read fault\n" ∷ []

@@ -72,6 +72,8 @@ pub enum Line<'a> {
         words: u32,
         given: u32,
     },
+    /// No circuit of the image is made.
+    NoCircuit,
     Link(LinkLine<'a>),
     Asm(AsmLine<'a>),
     ReadFault,

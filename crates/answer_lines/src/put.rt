@@ -34,6 +34,7 @@ pub fn put_line<O: Sink>(sink: &mut O, line: &Line<'_>) -> Result<(), Failed>
         ),
         Line::TooBig(name, sum) => put_too_big(sink, name, sum),
         Line::BadImage => put_text(sink, b"bad image\n"),
+        Line::NoCircuit => put_text(sink, b"rtl: no circuit\n"),
         Line::Differs { word, kept, linked } => put_differs(sink, word, kept, linked),
         Line::MethodTooLong {
             name,

@@ -6,3 +6,5 @@ pub mod Shown
 pub mod LoopAnswers
 pub mod Shaping
 pub mod ShownWith
+pub mod Beginning
+pub mod CircuitAnswers

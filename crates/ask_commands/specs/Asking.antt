@@ -6,7 +6,7 @@ use Rattle.image_file.specs.Linked as file
 use Rattle.command_line.specs.Range.{AreSettings}
 use Rattle.jopizer.specs.Linked.{Parts, IsLinked, image_of}
 use Rattle.ask_commands.specs.declared.asking.Question.{Question}
-use Rattle.ask_commands.specs.declared.asking.Question.TheVariants.{Check, Bound, Bounds, Shapes, Report, Loops, Headers, Memory}
+use Rattle.ask_commands.specs.declared.asking.Question.TheVariants.{Check, Bound, Bounds, Shapes, Report, Loops, Headers, Memory, Rtl}
 use Rattle.ask_commands.specs.declared.asking.Asked.{Asked}
 use Rattle.endings.specs.declared.outcome.Answer.{Answer}
 use Rattle.endings.specs.declared.outcome.Answer.TheVariants.{Text, Ends}
@@ -25,6 +25,7 @@ use Rattle.ask_commands.specs.Reporting.{AnswersReport}
 use Rattle.ask_commands.specs.AllBounds.{AnswersBounds, AnswersBareBounds}
 use Rattle.ask_commands.specs.Headers.{AnswersHeaders, AnswersBareHeaders}
 use Rattle.ask_commands.specs.Needs.{AnswersLoops, AnswersNothing, AnswersNeed, AnswersBareNeed}
+use Rattle.ask_commands.specs.Circuits.{AnswersCircuit, AnswersBareCircuit}
 use Rattle.endings.specs.Putting.{PutsAnswer}
 
 -- ---- the answers, question by question; the operands' texts stand in their order, the image's bytes first
@@ -44,6 +45,7 @@ HasRightSettings (Report s method) = AreSettings s
 HasRightSettings (Loops further) = Unit {0}
 HasRightSettings Headers = Unit {0}
 HasRightSettings Memory = Unit {0}
+HasRightSettings (Rtl s) = AreSettings s
 
 -- what was linked answers so; the words name what is asked for
 abbrev pub IsAnswer : (words : List (List ℕ)) → Question → Parts → (operands : List (List ℕ)) → Answer → Type 0
@@ -55,6 +57,7 @@ IsAnswer words (Report s method) l operands answer = AnswersReport l.classes s (
 IsAnswer words (Loops further) l operands answer = AnswersLoops further l.classes answer
 IsAnswer words Headers l operands answer = AnswersHeaders l.classes (text_of_word operands 1) answer
 IsAnswer words Memory l operands answer = AnswersNeed l (text_of_word operands 1) (text_of_word operands 2) answer
+IsAnswer words (Rtl s) l operands answer = AnswersCircuit s l answer
 
 -- so does a bare image, which has no classes
 abbrev pub IsBareAnswer : Question → BareContent → (operands : List (List ℕ)) → Answer → Type 0
@@ -66,6 +69,7 @@ IsBareAnswer (Report s method) image operands answer = EndsBy (BoundsBare s imag
 IsBareAnswer (Loops further) image operands answer = AnswersNothing answer
 IsBareAnswer Headers image operands answer = AnswersBareHeaders (text_of_word operands 1) answer
 IsBareAnswer Memory image operands answer = AnswersBareNeed image (text_of_word operands 1) (text_of_word operands 2) answer
+IsBareAnswer (Rtl s) image operands answer = AnswersBareCircuit s image answer
 
 -- ---- the image
 

@@ -2,6 +2,7 @@ pub mod Assembling
 pub mod Checking
 pub mod Bounding
 pub mod Needs
+pub mod Circuits
 pub mod Headers
 pub mod Reporting
 pub mod AllBounds

@@ -13,6 +13,7 @@ ghost use Rattle.ask_commands.specs.Asking.{HasRightSettings, IsAnswer, IsBareAn
 use crate::all_bounds::{bounds_bare, bounds_linked};
 use crate::bounding::{bound_bare_image, bound_linked, shapes_bare, shapes_linked};
 use crate::checking::{check_bare_image, check_linked};
+use crate::circuits::{circuit_bare, circuit_linked};
 use crate::headers::{headers_bare, headers_linked};
 use crate::needs::{loops_linked, memory_bare, memory_linked};
 use crate::reporting::report_linked;
@@ -47,6 +48,8 @@ pub enum Question {
     Headers,
     /// What a run needs of memory. Its operands are an image, bounds of loops and lengths of arrays.
     Memory,
+    /// The machine with the image in it as a circuit. Its operand is an image.
+    Rtl { settings: Settings },
 }
 
 /// A question about the image of a word.
@@ -90,6 +93,7 @@ fn answer_linked(
         Question::Loops { further } => loops_linked(alloc, linked, further),
         Question::Headers => headers_linked(alloc, linked, bounds),
         Question::Memory => memory_linked(alloc, linked, bounds, operand(operands, 2)),
+        Question::Rtl { settings } => circuit_linked(alloc, linked, &settings),
     }
 }
 
@@ -113,6 +117,7 @@ fn answer_bare(alloc: Global, question: Question, image: &Bare, operands: &[Vec<
         Question::Loops { .. } => Answer::Text(Vec::new(alloc)),
         Question::Headers => headers_bare(alloc, bounds),
         Question::Memory => memory_bare(alloc, image, bounds, operand(operands, 2)),
+        Question::Rtl { settings } => circuit_bare(alloc, image, &settings),
     }
 }
 

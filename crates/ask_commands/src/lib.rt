@@ -6,6 +6,7 @@ pub mod asking;
 pub mod assembling;
 pub mod bounding;
 pub mod checking;
+pub mod circuits;
 pub mod headers;
 pub mod needs;
 pub mod priced_files;

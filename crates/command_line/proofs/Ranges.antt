@@ -7,7 +7,7 @@ use Rattle.std.specs.List.{flat_map}
 use Rattle.std.specs.Option.{option_to_list}
 use Rattle.std.specs.Borrow.{Bor}
 use Rattle.command_line.specs.declared.table.Verb.{Verb}
-use Rattle.command_line.specs.declared.table.Verb.TheVariants.{Link, Run, Trace, Profile, Bound, Report, Plan, Cycle, Check, Loops, Headers, Need, Asm, Work}
+use Rattle.command_line.specs.declared.table.Verb.TheVariants.{Link, Run, Trace, Profile, Bound, Report, Plan, Cycle, Check, Loops, Headers, Need, Rtl, Asm, Work}
 use Rattle.command_line.specs.declared.table.Name.{Name}
 use Rattle.command_line.specs.declared.table.Name.TheVariants.{Main, Method, All, Shapes, Cycles, Stack, Memory, Blocks, BlockWords, Read, Write, Micro, Rounds, Further, Facts}
 use Rattle.command_line.specs.declared.command.Command.{Command}
@@ -165,6 +165,7 @@ made_in_range Check values k m n operands kept required are = let settings = set
 made_in_range Loops values k m n operands kept required are = tt
 made_in_range Headers values k m n operands kept required are = let some = are.0 in let few = are.1 in let is = are.3 in (omega (arith, some, is), omega (arith, few, is))
 made_in_range Need values k m n operands kept required are = tt
+made_in_range Rtl values k m n operands kept required are = settings_are values n kept
 made_in_range Asm values k m n operands kept required are = tt
 made_in_range Work values k m n operands kept required are = (are.2.2, are.2.3)
 
@@ -207,6 +208,7 @@ made_there Headers values k m n operands all kept are = let is = are.3 in omega 
 made_there Need values k m n operands all kept are =
     let many = are.0 in
     (omega (arith, all, many), omega (arith, all, many), omega (arith, all, many))
+made_there Rtl values k m n operands all kept are = let many = are.0 in omega (arith, all, many)
 made_there Asm values k m n operands all kept are = let many = are.0 in omega (arith, all, many)
 made_there Work values k m n operands all kept are = tt
 
@@ -224,6 +226,7 @@ made_follow Check values k m = check_by OperandsFollow values k (refl, refl) (re
 made_follow Loops values k m = tt
 made_follow Headers values k m = tt
 made_follow Need values k m = (refl, refl)
+made_follow Rtl values k m = tt
 made_follow Asm values k m = tt
 made_follow Work values k m = tt
 

@@ -7,7 +7,7 @@ use Rattle.std.specs.declared.result.Result.{Result}
 use Rattle.std.proofs.lemmas.Bool.{cases_Bool}
 use Rattle.std.proofs.lemmas.Bool.Decides.{nat_tests}
 use Rattle.command_line.specs.declared.table.Verb.{Verb}
-use Rattle.command_line.specs.declared.table.Verb.TheVariants.{Link, Run, Trace, Profile, Bound, Report, Plan, Cycle, Check, Loops, Headers, Need, Asm, Work}
+use Rattle.command_line.specs.declared.table.Verb.TheVariants.{Link, Run, Trace, Profile, Bound, Report, Plan, Cycle, Check, Loops, Headers, Need, Rtl, Asm, Work}
 use Rattle.command_line.specs.declared.table.Name.{Name}
 use Rattle.command_line.specs.declared.table.Name.TheVariants.{Main, Method, All, Shapes, Cycles, Stack, Memory, Blocks, BlockWords, Read, Write, Micro, Rounds, Further, Facts}
 use Rattle.command_line.specs.declared.command.Command.{Command}
@@ -277,6 +277,7 @@ finish Check k values are = (codes "b" ∷ codes "b" ∷ codes "b" ∷ [], refl)
 finish Loops k values are = (codes "b" ∷ [], refl)
 finish Headers k values are = (codes "b" ∷ [], refl)
 finish Need k values are = (codes "b" ∷ codes "b" ∷ codes "b" ∷ [], refl)
+finish Rtl k values are = (codes "b" ∷ [], refl)
 finish Asm k values are = (codes "b" ∷ [], refl)
 finish Work k values are = (codes "1" ∷ [], refl)
 

@@ -8,7 +8,7 @@ use Rattle.std.proofs.lemmas.List.Folds.{Any-from_list_any, list_any_at}
 use Rattle.std.proofs.lemmas.Bool.{cases_Bool}
 use Rattle.std.proofs.lemmas.Slice.Eq.{bytes_eq-Decides}
 use Rattle.command_line.specs.declared.table.Verb.{Verb}
-use Rattle.command_line.specs.declared.table.Verb.TheVariants.{Link, Run, Trace, Profile, Bound, Report, Plan, Cycle, Check, Loops, Headers, Need, Asm, Work}
+use Rattle.command_line.specs.declared.table.Verb.TheVariants.{Link, Run, Trace, Profile, Bound, Report, Plan, Cycle, Check, Loops, Headers, Need, Rtl, Asm, Work}
 use Rattle.command_line.specs.declared.table.Name.{Name}
 use Rattle.command_line.specs.declared.table.Name.TheVariants.{Main, Method, All, Shapes, Cycles, Stack, Memory, Blocks, BlockWords, Read, Write, Micro, Rounds, Further, Facts}
 use Rattle.command_line.specs.Table.{name_word, all_names, place_of, same_name, rivals, names_of, verb_word, all_verbs, verb_named, name_named, has_name, kept_by, name_of}
@@ -288,6 +288,7 @@ verb_of_word Check = refl
 verb_of_word Loops = refl
 verb_of_word Headers = refl
 verb_of_word Need = refl
+verb_of_word Rtl = refl
 verb_of_word Asm = refl
 verb_of_word Work = refl
 

@@ -8,7 +8,8 @@ use Rattle.std.specs.Borrow.{Bor}
 use Rattle.std.specs.List.{list_any, list_all}
 use Rattle.ascii_text.specs.Number.{value_of}
 use Rattle.command_line.specs.declared.table.Verb.{Verb}
-use Rattle.command_line.specs.declared.table.Verb.TheVariants.{Link, Run, Trace, Profile, Bound, Report, Plan, Cycle, Check, Loops, Headers, Need, Asm, Work}
+use Rattle.command_line.specs.declared.table.Verb.TheVariants.{Link, Run, Trace, Profile, Bound, Report, Plan, Cycle, Check, Loops, Headers}
+use Rattle.command_line.specs.declared.table.Verb.TheVariants.{Need, Rtl, Asm, Work}
 use Rattle.command_line.specs.declared.table.Name.{Name}
 use Rattle.command_line.specs.declared.table.Name.TheVariants.{Main, Method, All, Shapes, Cycles, Stack, Memory, Blocks, BlockWords, Read, Write, Micro, Rounds}
 use Rattle.command_line.specs.declared.table.Name.TheVariants.{Further, Facts}
@@ -99,6 +100,7 @@ made Check values k n =
 made Loops values k n = commands.Loops (is_some (given values Further)) k
 made Headers values k n = commands.Headers k n
 made Need values k n = commands.Memory k (k + 1) (k + 2)
+made Rtl values k n = commands.Rtl (settings_of values) k
 made Asm values k n = commands.Asm k
 made Work values k n = commands.Work n
 

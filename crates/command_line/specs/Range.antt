@@ -3,7 +3,7 @@ use Rattle.std.specs.Prelude.{◌≡◌, ℕ, ◌+◌, ◌^◌, ◌<◌, ◌≤�
 use Rattle.command_line.specs.declared.command.Settings.{Settings}
 use Rattle.command_line.specs.declared.command.Command.{Command}
 use Rattle.command_line.specs.declared.command.Command.TheVariants.{Link, Run, Trace, Profile, Bound, BoundWith, BoundAll, BoundShapes, Report}
-use Rattle.command_line.specs.declared.command.Command.TheVariants.{Plan, Cycle, Check, CheckWith, Loops, Headers, Memory, Asm, Work}
+use Rattle.command_line.specs.declared.command.Command.TheVariants.{Plan, Cycle, Check, CheckWith, Loops, Headers, Memory, Rtl, Asm, Work}
 
 pub record AreSettings (settings : Settings) : Type 0 where
   pub cycles : settings.cycles < 2 ^ 63
@@ -34,6 +34,7 @@ HasNumbersInRange (CheckWith settings facts image bounds certificate) = AreSetti
 HasNumbersInRange (Loops further image) = Unit {0}
 HasNumbersInRange (Headers image operands) = (1 ≤ operands) × (operands ≤ 2)
 HasNumbersInRange (Memory image bounds sizes) = Unit {0}
+HasNumbersInRange (Rtl settings image) = AreSettings settings
 HasNumbersInRange (Asm text) = Unit {0}
 HasNumbersInRange (Work count) = (1 ≤ count) × (count ≤ 1000)
 
@@ -55,6 +56,7 @@ AreThere n (CheckWith settings facts image bounds certificate) = (facts < n) × 
 AreThere n (Loops further image) = image < n
 AreThere n (Headers image operands) = image + operands ≤ n
 AreThere n (Memory image bounds sizes) = (image < n) × (bounds < n) × (sizes < n)
+AreThere n (Rtl settings image) = image < n
 AreThere n (Asm text) = text < n
 AreThere n (Work count) = Unit {0}
 

@@ -2,7 +2,7 @@
 use Rattle.std.specs.Prelude.{◌≡◌, true, false, [], ◌∷◌, Ok, Err, codes}
 use Rattle.command_line.specs.declared.command.Settings.{Settings}
 use Rattle.command_line.specs.declared.command.Command.TheVariants.{Link, Run, Trace, Profile, Bound, BoundWith, BoundAll, BoundShapes, Report}
-use Rattle.command_line.specs.declared.command.Command.TheVariants.{Plan, Cycle, Check, CheckWith, Loops, Headers, Memory, Asm, Work}
+use Rattle.command_line.specs.declared.command.Command.TheVariants.{Plan, Cycle, Check, CheckWith, Loops, Headers, Memory, Rtl, Asm, Work}
 use Rattle.command_line.specs.Command.{command_of}
 
 abbrev usual : Settings
@@ -89,6 +89,14 @@ CommandRows =
     × (command_of (codes "headers" ∷ codes "--read" ∷ codes "1" ∷ codes "i" ∷ []) ≡ Err 1)
     × (command_of (codes "memory" ∷ codes "i" ∷ codes "b" ∷ codes "s" ∷ []) ≡ Ok (Memory 1 2 3))
     × (command_of (codes "memory" ∷ codes "i" ∷ codes "b" ∷ []) ≡ Err 3)
+    × (command_of (codes "rtl" ∷ codes "i" ∷ []) ≡ Ok (Rtl usual 1))
+    × (command_of
+    (codes "rtl" ∷ codes "--stack" ∷ codes "256" ∷ codes "--memory" ∷ codes "2304" ∷ codes "--read" ∷ codes "0" ∷ codes "--write" ∷ codes "0"
+    ∷ codes "--blocks" ∷ codes "8" ∷ codes "--block-words" ∷ codes "32" ∷ codes "i" ∷ [])
+    ≡ Ok (Rtl (record usual { stack = 256; memory = 2304; blocks = 8; block_words = 32; read = 0; write = 0 }) 13))
+    × (command_of (codes "rtl" ∷ []) ≡ Err 1)
+    × (command_of (codes "rtl" ∷ codes "i" ∷ codes "j" ∷ []) ≡ Err 2)
+    × (command_of (codes "rtl" ∷ codes "--cycles" ∷ codes "5" ∷ codes "i" ∷ []) ≡ Err 1)
     × (command_of (codes "asm" ∷ codes "t" ∷ []) ≡ Ok (Asm 1))
     × (command_of (codes "asm" ∷ codes "--" ∷ []) ≡ Err 1)
     × (command_of (codes "work" ∷ codes "1000" ∷ []) ≡ Ok (Work 1000))

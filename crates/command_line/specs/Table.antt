@@ -3,7 +3,8 @@ use Rattle.std.specs.Prelude.{ℕ, ◌-◌, ◌^◌, Bool, ◌==◌, if◌then�
 use Rattle.std.specs.declared.option.Option.{Option}
 use Rattle.std.specs.List.{find, list_any}
 use Rattle.command_line.specs.declared.table.Verb.{Verb}
-use Rattle.command_line.specs.declared.table.Verb.TheVariants.{Link, Run, Trace, Profile, Bound, Report, Plan, Cycle, Check, Loops, Headers, Need, Asm, Work}
+use Rattle.command_line.specs.declared.table.Verb.TheVariants.{Link, Run, Trace, Profile, Bound, Report, Plan, Cycle, Check, Loops, Headers}
+use Rattle.command_line.specs.declared.table.Verb.TheVariants.{Need, Rtl, Asm, Work}
 use Rattle.command_line.specs.declared.table.Name.{Name}
 use Rattle.command_line.specs.declared.table.Name.TheVariants.{Main, Method, All, Shapes, Cycles, Stack, Memory, Blocks, BlockWords, Read, Write, Micro, Rounds}
 use Rattle.command_line.specs.declared.table.Name.TheVariants.{Further, Facts}
@@ -111,18 +112,23 @@ verb_word Check = codes "check"
 verb_word Loops = codes "loops"
 verb_word Headers = codes "headers"
 verb_word Need = codes "memory"
+verb_word Rtl = codes "rtl"
 verb_word Asm = codes "asm"
 verb_word Work = codes "work"
 
 abbrev pub all_verbs : List Verb
-all_verbs = Link ∷ Run ∷ Trace ∷ Profile ∷ Bound ∷ Report ∷ Plan ∷ Cycle ∷ Check ∷ Loops ∷ Headers ∷ Need ∷ Asm ∷ Work ∷ []
+all_verbs = Link ∷ Run ∷ Trace ∷ Profile ∷ Bound ∷ Report ∷ Plan ∷ Cycle ∷ Check ∷ Loops ∷ Headers ∷ Need ∷ Rtl ∷ Asm ∷ Work ∷ []
 
 -- the four that a bound depends on
 abbrev pub bound_names : List Name
 bound_names = Blocks ∷ BlockWords ∷ Read ∷ Write ∷ []
 
+-- what a machine has
+abbrev pub machine_names : List Name
+machine_names = Stack ∷ Memory ∷ bound_names
+
 abbrev pub run_names : List Name
-run_names = Cycles ∷ Stack ∷ Memory ∷ bound_names
+run_names = Cycles ∷ machine_names
 
 abbrev pub names_of : Verb → List Name
 names_of Link = Main ∷ []
@@ -137,6 +143,7 @@ names_of Check = Facts ∷ bound_names
 names_of Loops = Further ∷ []
 names_of Headers = []
 names_of Need = []
+names_of Rtl = machine_names
 names_of Asm = []
 names_of Work = []
 
@@ -169,6 +176,7 @@ operands_of Check = Exactly 3
 operands_of Loops = Exactly 1
 operands_of Headers = AtMost 2
 operands_of Need = Exactly 3
+operands_of Rtl = Exactly 1
 operands_of Asm = Exactly 1
 operands_of Work = Number 1 1000
 

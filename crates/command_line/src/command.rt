@@ -122,6 +122,11 @@ pub enum Command {
         bounds: u32,
         sizes: u32,
     },
+    /// The machine with the image in it, as a circuit.
+    Rtl {
+        settings: Settings,
+        image: u32,
+    },
     Asm {
         text: u32,
     },

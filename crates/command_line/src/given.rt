@@ -180,6 +180,7 @@ impl Given {
             | Verb::Loops
             | Verb::Headers
             | Verb::Need
+            | Verb::Rtl
             | Verb::Asm
             | Verb::Work => true,
         }

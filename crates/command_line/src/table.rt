@@ -2,7 +2,7 @@
 ghost use Rattle.std.specs.Prelude.{◌≡◌, ◌∷◌, []};
 ghost use Rattle.std.specs.List.{list_any};
 ghost use Rattle.command_line.specs.Command.{is_flag};
-ghost use Rattle.command_line.specs.Table.{value_of_name, verb_named, name_named, has_name, name_of, same_name, bound_names};
+ghost use Rattle.command_line.specs.Table.{value_of_name, verb_named, name_named, has_name, name_of, same_name, bound_names, machine_names};
 
 /// What a command does.
 #[derive(Clone, Copy)]
@@ -20,6 +20,8 @@ pub(crate) enum Verb {
     Headers,
     /// What a run needs of memory.
     Need,
+    /// The machine as a circuit.
+    Rtl,
     Asm,
     Work,
 }
@@ -73,6 +75,8 @@ pub(crate) fn verb_named(word: &str) -> Option<Verb>
         Some(Verb::Headers)
     } else if word == "memory" {
         Some(Verb::Need)
+    } else if word == "rtl" {
+        Some(Verb::Rtl)
     } else if word == "asm" {
         Some(Verb::Asm)
     } else if word == "work" {
@@ -135,6 +139,7 @@ fn has_name(verb: Verb, name: Name) -> bool
         Verb::Cycle => matches!(name, Name::Rounds) || is_of_run(name),
         Verb::Check => matches!(name, Name::Facts) || is_of_bound(name),
         Verb::Loops => matches!(name, Name::Further),
+        Verb::Rtl => is_of_machine(name),
         Verb::Headers | Verb::Need | Verb::Asm | Verb::Work => false,
     }
 }
@@ -150,7 +155,14 @@ fn is_of_methods(name: Name) -> bool
 fn is_of_run(name: Name) -> bool
     ensures { result ≡ has_name Verb.Run name }
 {
-    matches!(name, Name::Cycles | Name::Stack | Name::Memory) || is_of_bound(name)
+    matches!(name, Name::Cycles) || is_of_machine(name)
+}
+
+/// Whether it says what a machine has.
+fn is_of_machine(name: Name) -> bool
+    ensures { result ≡ list_any (same_name name) machine_names }
+{
+    matches!(name, Name::Stack | Name::Memory) || is_of_bound(name)
 }
 
 /// Whether it is one of the four that a bound depends on.

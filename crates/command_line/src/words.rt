@@ -104,7 +104,9 @@ fn operands_stop(verb: Verb, k: u32, operand: &str, rest: &[&str]) -> Option<u32
         Verb::Link => at_least(k, 1, operand, rest),
         Verb::Cycle => at_least(k, 2, operand, rest),
         Verb::Plan => at_least(k, 3, operand, rest),
-        Verb::Run | Verb::Trace | Verb::Loops | Verb::Asm => exactly(k, 1, operand, rest),
+        Verb::Run | Verb::Trace | Verb::Loops | Verb::Rtl | Verb::Asm => {
+            exactly(k, 1, operand, rest)
+        }
         Verb::Profile | Verb::Bound | Verb::Report => exactly(k, 2, operand, rest),
         Verb::Headers => at_most(k, 2, operand, rest),
         Verb::Check | Verb::Need => exactly(k, 3, operand, rest),
@@ -133,6 +135,7 @@ fn operand_number(verb: Verb, operand: &str, rest: &[&str]) -> u32
         | Verb::Check
         | Verb::Loops
         | Verb::Need
+        | Verb::Rtl
         | Verb::Asm => 0,
     }
 }
@@ -281,8 +284,19 @@ fn made(verb: Verb, given: &Given, k: u32, count: u32) -> Command
             bounds: k + 1,
             sizes: k + 2,
         },
+        Verb::Rtl => rtl(given, k),
         Verb::Asm => Command::Asm { text: k },
         Verb::Work => Command::Work { count },
+    }
+}
+
+/// The machine with an image as a circuit; word `k` is the image.
+fn rtl(given: &Given, k: u32) -> Command
+    ensures { result ≡ made Verb.Rtl (values_of given.now) k 0 }
+{
+    Command::Rtl {
+        settings: given.settings(),
+        image: k,
     }
 }
 

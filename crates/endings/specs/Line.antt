@@ -6,7 +6,7 @@ use Rattle.endings.specs.declared.outcome.Refusal.TheVariants.{Usage, TooBig, Ba
 use Rattle.endings.specs.declared.outcome.Refusal.TheVariants.{MethodTooLong, MemoryTooSmall, BadBounds, TwiceBound, BadSizes}
 use Rattle.endings.specs.declared.outcome.Refusal.TheVariants.{TwiceSize, BadLines, TwiceLines, BadFacts, TwiceFact, NoFact, BadTable, SlotCount, BadCert}
 use Rattle.endings.specs.declared.outcome.Refusal.TheVariants.{Check, Price}
-use Rattle.endings.specs.declared.outcome.Refusal.TheVariants.{Bound, Memory, NoLoop, Plan, Asm, Link}
+use Rattle.endings.specs.declared.outcome.Refusal.TheVariants.{Bound, Memory, NoLoop, NoCircuit, Plan, Asm, Link}
 use Rattle.endings.specs.declared.outcome.AsmRefusal.TheVariants as asm
 use Rattle.endings.specs.declared.outcome.Ending.{Ending}
 use Rattle.endings.specs.declared.outcome.Ending.TheVariants.{Ended, Written, Linked, Holds, Uncaught}
@@ -80,6 +80,7 @@ refusal_parts words (Price method node) = []
 refusal_parts words (Bound cause) = []
 refusal_parts words (Memory cause) = []
 refusal_parts words NoLoop = []
+refusal_parts words NoCircuit = codes "rtl: no circuit\n" ∷ []
 refusal_parts words (Plan cause) = []
 refusal_parts words (Asm (asm.Line number kind)) = codes "asm: line=" ∷ decimal number ∷ codes " " ∷ kind_name kind ∷ codes "\n" ∷ []
 refusal_parts words (Asm (asm.TooLong count)) = codes "asm: too long words=" ∷ decimal count ∷ codes "\n" ∷ []

@@ -70,6 +70,7 @@ fn say_refusal<O: Sink>(sink: &mut O, words: &[&str], refusal: Refusal) -> Resul
         Refusal::MemoryTooSmall(words, given) => {
             say(sink, &Line::MemoryTooSmall { words, given })
         }
+        Refusal::NoCircuit => say(sink, &Line::NoCircuit),
         Refusal::Asm(AsmRefusal::Line(number, kind)) => {
             say(sink, &Line::Asm(AsmLine::Broken(number, kind_name(kind))))
         }

@@ -59,6 +59,8 @@ pub enum Refusal {
     Bound(BoundCause),
     /// This is why no need of memory is given.
     Memory(NeedCause),
+    /// The circuit of the image isn't made: a net of it would be none.
+    NoCircuit,
     /// A bound is said of what heads no loop.
     NoLoop,
     /// This keeps a slot from its length.

@@ -21,7 +21,7 @@ pub struct Plan {
 }
 
 /// The machine that these settings give.
-fn config_of(settings: &Settings) -> Config
+pub fn config_of(settings: &Settings) -> Config
     requires { AreSettings settings.now }
     ensures { HasSettings settings.now result }
 {

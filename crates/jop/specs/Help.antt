@@ -3,7 +3,7 @@ use Rattle.std.specs.Prelude.{ℕ, Bool, ◌||◌, if◌then◌else◌, List, []
 use Rattle.std.specs.declared.option.Option.{Option}
 use Rattle.jop.specs.declared.help.Question.{Question}
 use Rattle.jop.specs.declared.help.Question.TheVariants.{Version, Commands, Link, Run, Trace, Profile, Bound, Report, Plan, Cycle, Check}
-use Rattle.jop.specs.declared.help.Question.TheVariants.{Loops, Headers, Memory, Work, Asm}
+use Rattle.jop.specs.declared.help.Question.TheVariants.{Loops, Headers, Memory, Rtl, Work, Asm}
 use Rattle.jop.specs.declared.help.TheConstants as texts
 
 abbrev pub is_help : (word : List ℕ) → Bool
@@ -32,6 +32,7 @@ commands =
     ∷ record { word = codes "loops"; question = Loops }
     ∷ record { word = codes "headers"; question = Headers }
     ∷ record { word = codes "memory"; question = Memory }
+    ∷ record { word = codes "rtl"; question = Rtl }
     ∷ record { word = codes "work"; question = Work }
     ∷ record { word = codes "asm"; question = Asm }
     ∷ []
@@ -67,5 +68,6 @@ help_text Check = texts.CHECK.now
 help_text Loops = texts.LOOPS.now
 help_text Headers = texts.HEADERS.now
 help_text Memory = texts.MEMORY.now
+help_text Rtl = texts.RTL.now
 help_text Work = texts.WORK.now
 help_text Asm = texts.ASM.now

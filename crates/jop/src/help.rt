@@ -42,6 +42,7 @@ usage:
   jop loops [--further] IMAGE                puts the bounds of the loops that count
   jop headers IMAGE [LINES]                  puts a text of bounds with the source line of each loop
   jop memory IMAGE BOUNDS SIZES              says how many words a run needs at most
+  jop rtl [OPTION VALUE].. IMAGE             puts the machine with an image in it as a circuit in Verilog
   jop work N                                 makes a program of N methods, links, runs and bounds it
   jop asm TEXT                               assembles microcode
   jop COMMAND --help                         how a command is used; so do `jop COMMAND -h` and `jop help COMMAND`
@@ -372,6 +373,32 @@ example:
   $ jop memory controller.jopi examples/controller/controller.bounds no.lengths
 ";
 
+const RTL: &str = "\
+jop rtl [OPTION VALUE].. IMAGE
+
+Puts the machine of these options, with an image in it, on standard output as a circuit: one module of Verilog-2005,
+`module jop(clk, in_data, in_valid, in_take, out_data, out_put, halted)`. Its first clock starts it, and each clock
+behind that is a cycle of the run that `jop run` makes with the same options.
+
+  --stack N          words on chip: 256, 512 or 1024 (1024)
+  --memory N         words of memory, 16 to 16777216 (262144)
+  --blocks N         blocks of the method cache, 1 to 256 (16)
+  --block-words N    words of a block, 1 to 1024 (64)
+  --read N           cycles that a read waits, 0 to 63 (1)
+  --write N          cycles that a write waits, 0 to 63 (2)
+
+answers:
+  none, and the module                     status 0
+  bad image, differs word=K .., link: .., method too long NAME .., memory too small ..   status 2, as of run
+  rtl: no circuit                          status 2: the module would have a net that is none
+  usage: word K, too big NAME sum=S        status 2
+  read fault, write fault                  status 4
+  no memory                                status 5
+
+example:
+  $ jop rtl --stack 256 --memory 2048 --blocks 8 --block-words 32 controller.jopi > jop.v
+";
+
 const WORK: &str = "\
 jop work N
 
@@ -425,6 +452,7 @@ pub enum Question {
     Loops,
     Headers,
     Memory,
+    Rtl,
     Work,
     Asm,
 }
@@ -477,6 +505,8 @@ fn command_named(word: &str) -> Option<Question>
         Some(Question::Headers)
     } else if word == "memory" {
         Some(Question::Memory)
+    } else if word == "rtl" {
+        Some(Question::Rtl)
     } else if word == "work" {
         Some(Question::Work)
     } else if word == "asm" {
@@ -525,6 +555,7 @@ fn text_of(question: Question) -> &'static str
         Question::Loops => LOOPS,
         Question::Headers => HEADERS,
         Question::Memory => MEMORY,
+        Question::Rtl => RTL,
         Question::Work => WORK,
         Question::Asm => ASM,
     }

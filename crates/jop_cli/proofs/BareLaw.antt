@@ -1,5 +1,5 @@
 -- The code of a bare image that the method cache doesn't hold is answered.
-use Rattle.std.proofs.Common.{◌≡◌, ℕ, ◌<◌, List, ◌∷◌, Option, Some, ◌∙◌, subst, arith, ◌⊎◌, inl, inr, ⊎_elim}
+use Rattle.std.proofs.Common.{◌≡◌, ℕ, ◌<◌, ◌≤◌, List, ◌∷◌, Option, Some, ◌∙◌, subst, arith, ◌⊎◌, inl, inr, ⊎_elim}
 use Rattle.lists.proofs.Lemmas.{none≢some, some_same}
 use Rattle.image_file.specs.Bare.{BareContent, IsBareFile}
 use Rattle.command_line.specs.declared.command.Settings.{Settings}
@@ -24,6 +24,7 @@ use Rattle.ask_commands.specs.Checking.{ChecksBare}
 use Rattle.ask_commands.specs.Bounding.{BoundsBare}
 use Rattle.ask_commands.specs.AllBounds.{SaysNoBound}
 use Rattle.endings.specs.AnalysisFaults.{EndsUnread}
+use Rattle.ask_commands.specs.Circuits.{IsBareCircuitText, IsUnmade}
 use Rattle.ask_commands.specs.Asking.{EndsBy, IsBareAnswer}
 use Rattle.ask_commands.specs.Pricing.{BoundsBareWith, ChecksBareWith}
 use Rattle.ask_commands.specs.PricedFiles.{IsBarePricedAnswer}
@@ -31,7 +32,7 @@ use Rattle.endings.specs.Putting.{PutsAnswer}
 use Rattle.run_commands.specs.Profiling.{ProfilesBare}
 use Rattle.jop_cli.specs.Calls.{Call}
 use Rattle.jop_cli.specs.promises.Images.{OneBareImage}
-use Rattle.jop_cli.specs.promises.Refusals.{cache_asked, cache_with, cache_needed, LongBareCodesAreRefused}
+use Rattle.jop_cli.specs.promises.Refusals.{cache_of, cache_with, cache_needed, LongBareCodesAreRefused}
 use Rattle.jop_cli.proofs.Wholly.{wholly, quiet_without}
 use Rattle.jop_cli.proofs.RunningLaw.{begins_linked, begins_bare, image_read}
 use Rattle.jop_cli.proofs.Told.{EndsSo, answers_so}
@@ -46,7 +47,7 @@ module _ (s : Settings) (image : BareContent) (more : s.blocks < blocks_of_code 
   too_long : {X : Type 0} (ending : Ending) → EndsTooLong s image ending ⊎ X → ¬ X → ending ≡ Refused
   too_long ending ends fits = ⊎_elim (λ long. long.says) (λ x. absurd (fits x)) ends
 
-  asked_long : (question : Question) (operands : List (List ℕ)) (answer : Answer) → cache_asked question ≡ Some s → IsBareAnswer question image operands answer → EndsBy (λ ending. ending ≡ Refused) answer
+  asked_long : (question : Question) (operands : List (List ℕ)) (answer : Answer) → cache_of question ≡ Some s → IsBareAnswer question image operands answer → EndsBy (λ ending. ending ≡ Refused) answer
   asked_long (questions.Check other) operands (Text text) is answers = answers
   asked_long (questions.Check other) operands (Ends ending) is answers =
       let moved = subst (λ (x : Settings). ChecksBare x image (text_of_word operands 1) (text_of_word operands 2) ending) (some_same other s is) answers in
@@ -70,6 +71,13 @@ module _ (s : Settings) (image : BareContent) (more : s.blocks < blocks_of_code 
   asked_long (questions.Loops further) operands answer is answers = absurd (none≢some s is)
   asked_long questions.Headers operands answer is answers = absurd (none≢some s is)
   asked_long questions.Memory operands answer is answers = absurd (none≢some s is)
+  asked_long (questions.Rtl other) operands (Text text) is answers =
+      let moved = subst (λ (x : Settings). (blocks_of_code x image ≤ x.blocks) × IsBareCircuitText x image text.items) (some_same other s is) answers in
+      let fits = moved.0 in
+      absurd (omega (arith, fits, more))
+  asked_long (questions.Rtl other) operands (Ends ending) is answers =
+      let moved = subst (λ (x : Settings). EndsTooLong x image ending ⊎ ((blocks_of_code x image ≤ x.blocks) × IsUnmade ending)) (some_same other s is) answers in
+      too_long ending moved (λ m. let fits = m.0 in omega (arith, fits, more))
 
   -- and where facts are given, too
   asked_with_long : (question : PricedQuestion) (operands : List (List ℕ)) (facts : List ℕ) (answer : Answer) → ◌≡◌ {A = Option Settings} (Some (cache_with question)) (Some s) → IsBarePricedAnswer question image operands facts answer
@@ -87,7 +95,7 @@ module _ (s : Settings) (image : BareContent) (more : s.blocks < blocks_of_code 
     abbrev SaysSo : Type 0
     SaysSo = EndsSo c ending Refused
 
-    by_answer : (question : Question) → cache_asked question ≡ Some s → (answer : Answer) → IsBareAnswer question image operands answer → PutsAnswer answer c.old.out c.new.out c.old.out_faults c.new.out_faults ending
+    by_answer : (question : Question) → cache_of question ≡ Some s → (answer : Answer) → IsBareAnswer question image operands answer → PutsAnswer answer c.old.out c.new.out c.old.out_faults c.new.out_faults ending
         → AnswersBy c (IsBareAnswer question image operands) ending → SaysSo
     by_answer question is (Text text) answers put r = absurd (asked_long question operands (Text text) is answers)
     by_answer question is (Ends said) answers put r = record { is = inl (put.0 ∙ asked_long question operands (Ends said) is answers); quiet = ends_quiet c ending said put r.watch r.input }

@@ -73,6 +73,7 @@ run_shows (commands.CheckWith settings facts image bounds certificate) shows = a
 run_shows (commands.Loops further image) shows = absurd shows
 run_shows (commands.Headers image operands) shows = absurd shows
 run_shows (commands.Memory image bounds sizes) shows = absurd shows
+run_shows (commands.Rtl settings image) shows = absurd shows
 run_shows (commands.Asm text) shows = absurd shows
 run_shows (commands.Work n) shows = absurd shows
 

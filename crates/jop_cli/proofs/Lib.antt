@@ -49,3 +49,4 @@ mod OneShapes
 mod NoFacts
 mod TextFaults
 mod FactsKept
+mod ShownCircuits

@@ -57,6 +57,7 @@ use Rattle.ask_commands.specs.Checking.{refusal_ending, Checks}
 use Rattle.ask_commands.specs.Bounding.{cause_ending, Bounds, EndsNotBounded}
 use Rattle.ask_commands.specs.AllBounds.{SaysBounds, EndsUnanalysed}
 use Rattle.ask_commands.specs.Reporting.{SaysReport}
+use Rattle.ask_commands.specs.Circuits.{IsCircuitText, IsHeldBy, IsUnmade}
 use Rattle.ask_commands.specs.Asking.{EndsBy, IsAnswer}
 use Rattle.ask_commands.specs.Pricing.{unbounded_ending, unheld_ending, BoundsWith, EndsUnbounded, ChecksWith}
 use Rattle.ask_commands.specs.PricedFiles.{IsPricedAnswer}
@@ -69,7 +70,7 @@ use Rattle.jop_cli.specs.Calls.{Call, NothingFailed, LacksMemory}
 use Rattle.jop_cli.specs.promises.Answers.{AnswersEnding}
 use Rattle.jop_cli.specs.promises.Plan.{IsPlanned, puts, says, lacks, PlansAreAnswered}
 use Rattle.jop_cli.specs.promises.Cycle.{IsCycled, lacks, ran, unheld, CyclesAreRuns}
-use Rattle.jop_cli.specs.promises.Refusals.{TakesImage, cache_asked, cache_with, cache_needed, memory_needed, of_image}
+use Rattle.jop_cli.specs.promises.Refusals.{TakesImage, cache_of, cache_with, cache_needed, memory_asked, memory_needed, of_image}
 use Rattle.jop_cli.specs.promises.Refusals.{of_plan, of_cycle, AnswersTooLong, LongMethodsAreRefused, SmallMemoriesAreRefused}
 use Rattle.jop_cli.proofs.Wholly.{IsWholly, wholly, quiet_of}
 use Rattle.jop_cli.proofs.Wholly as whole
@@ -217,7 +218,7 @@ module _ (l : Parts) (s : Settings) (method blocks : ℕ) (long : IsTooLong s l 
       unbounded_with_long (text_of_word operands 1) facts (text_of_word words m) ending moved.cause moved.is moved.says
 
   -- each question that asks for the method cache
-  asked_long : (words : List (List ℕ)) (question : Question) (operands : List (List ℕ)) (answer : Answer) → cache_asked question ≡ Some s → IsAnswer words question l operands answer → EndsBy Long answer
+  asked_long : (words : List (List ℕ)) (question : Question) (operands : List (List ℕ)) (answer : Answer) → cache_of question ≡ Some s → IsAnswer words question l operands answer → EndsBy Long answer
   asked_long words (questions.Check other) operands (Text text) is answers = answers
   asked_long words (questions.Check other) operands (Ends ending) is answers =
       checks_long (text_of_word operands 1) (text_of_word operands 2) ending
@@ -244,6 +245,12 @@ module _ (l : Parts) (s : Settings) (method blocks : ℕ) (long : IsTooLong s l 
   asked_long words (questions.Loops further) operands answer is answers = absurd (none≢some s is)
   asked_long words questions.Headers operands answer is answers = absurd (none≢some s is)
   asked_long words questions.Memory operands answer is answers = absurd (none≢some s is)
+  asked_long words (questions.Rtl other) operands (Text text) is answers =
+      let moved = subst (λ (x : Settings). IsHeldBy x l × IsCircuitText x l.laid.words text.items) (some_same other s is) answers in
+      absurd (not_fit moved.0.codes)
+  asked_long words (questions.Rtl other) operands (Ends ending) is answers =
+      let moved = subst (λ (x : Settings). IsUnheld x l ending ⊎ (IsHeldBy x l × IsUnmade ending)) (some_same other s is) answers in
+      ⊎_elim (λ un. unheld_long ending un) (λ m. absurd (not_fit m.0.codes)) moved
 
 -- ---- where a machine holds what is linked, or not
 
@@ -282,6 +289,16 @@ module _ (l : Parts) (s : Settings) (codes : CodesFit s l) (more : s.memory < le
   unheld_small endings.NoMemory is = inr refl
   unheld_small ending is = absurd is
 
+  -- the question that asks for the memory
+  asked_small : (words : List (List ℕ)) (question : Question) (operands : List (List ℕ)) (answer : Answer) → memory_asked question ≡ Some s → IsAnswer words question l operands answer → EndsBy (SmallEnding s l) answer
+  asked_small words (questions.Rtl other) operands (Text text) is answers =
+      let moved = subst (λ (x : Settings). IsHeldBy x l × IsCircuitText x l.laid.words text.items) (some_same other s is) answers in
+      absurd (not_held (moved.0.codes, moved.0.memory))
+  asked_small words (questions.Rtl other) operands (Ends ending) is answers =
+      let moved = subst (λ (x : Settings). IsUnheld x l ending ⊎ (IsHeldBy x l × IsUnmade ending)) (some_same other s is) answers in
+      ⊎_elim (λ un. unheld_small ending un) (λ m. absurd (not_held (m.0.codes, m.0.memory))) moved
+  asked_small words question operands answer is answers = absurd (none≢some s is)
+
 -- ---- what a command does with what is linked
 
 module _ (c : Call) (l : Parts) (s : Settings) (ending : Ending) where
@@ -303,7 +320,7 @@ module _ (c : Call) (l : Parts) (s : Settings) (method blocks : ℕ) (long : IsT
   tried_long : (IsUnheld s l ending × IsQuiet c.old c.new) ⊎ Holds s l → LongQuiet
   tried_long tried = ⊎_elim (λ h. (unheld_long l s method blocks long ending h.0, h.1)) (λ holds. absurd (not_fit l s method blocks long holds.0)) tried
 
-  by_answer : (question : Question) → cache_asked question ≡ Some s → (answer : Answer) → IsAnswer c.words question l operands answer → PutsAnswer answer c.old.out c.new.out c.old.out_faults c.new.out_faults ending
+  by_answer : (question : Question) → cache_of question ≡ Some s → (answer : Answer) → IsAnswer c.words question l operands answer → PutsAnswer answer c.old.out c.new.out c.old.out_faults c.new.out_faults ending
       → AnswersBy c (IsAnswer c.words question l operands) ending → LongQuiet
   by_answer question is (Text text) answers put r = absurd (asked_long l s method blocks long c.words question operands (Text text) is answers)
   by_answer question is (Ends said) answers put r =
@@ -335,6 +352,13 @@ module _ (c : Call) (l : Parts) (s : Settings) (codes : CodesFit s l) (more : s.
   tried_small : (IsUnheld s l ending × IsQuiet c.old c.new) ⊎ Holds s l → SmallQuiet
   tried_small tried = ⊎_elim (λ h. record { is = unheld_small l s codes more ending h.0; quiet = h.1 }) (λ holds. absurd (not_held l s codes more holds)) tried
 
+  small_by_answer : (question : Question) → memory_asked question ≡ Some s → (answer : Answer) → IsAnswer c.words question l operands answer → PutsAnswer answer c.old.out c.new.out c.old.out_faults c.new.out_faults ending
+      → AnswersBy c (IsAnswer c.words question l operands) ending → SmallQuiet
+  small_by_answer question is (Text text) answers put r = absurd (asked_small l s codes more c.words question operands (Text text) is answers)
+  small_by_answer question is (Ends said) answers put r =
+      let of_said = asked_small l s codes more c.words question operands (Ends said) is answers in
+      record { is = subst (SmallEnding s l) (sym put.0) of_said; quiet = ends_quiet c ending said put r.watch r.input }
+
   task_small : (task : Task) → memory_needed task ≡ Some s → DoesLinked c task l operands ending → SmallQuiet
   task_small (tasks.Run other show word) is did =
       tried_small (by_run c l s ending show (subst (λ (x : Settings). EndsAs x show l (lent_of c.old) (lent_of c.new) ending) (some_same other s is) did))
@@ -342,7 +366,7 @@ module _ (c : Call) (l : Parts) (s : Settings) (codes : CodesFit s l) (more : s.
       tried_small
       (by_profile c l s ending (text_of_word operands 1) did.1
       (subst (λ (x : Settings). ProfilesLinked x l (text_of_word operands 1) (unwatched c.old) (unwatched c.new) ending) (some_same other s is) did.0))
-  task_small (tasks.Ask asked) is did = absurd (none≢some s is)
+  task_small (tasks.Ask asked) is did = small_by_answer asked.question is did.answer did.is did.puts did
   task_small (tasks.AskWith asked) is did = absurd (none≢some s is)
   task_small task is did = absurd did
 

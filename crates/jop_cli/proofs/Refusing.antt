@@ -27,10 +27,11 @@ use Rattle.endings.specs.Opening.{BytesFault}
 use Rattle.endings.specs.Linking.{OperandsFault}
 use Rattle.endings.specs.AnalysisFaults.{fault_ending}
 use Rattle.ask_commands.specs.Checking.{refusal_ending, Checks}
-use Rattle.endings.specs.Fitting.{EndsTooLong}
+use Rattle.endings.specs.Fitting.{EndsTooLong, IsUnheld}
 use Rattle.ask_commands.specs.Bounding.{cause_ending}
 use Rattle.ask_commands.specs.Needs.{memory_ending}
 use Rattle.ask_commands.specs.Headers.{header_ending}
+use Rattle.ask_commands.specs.Circuits.{IsUnmade}
 use Rattle.ask_commands.specs.Asking.{IsAnswer, IsBareAnswer}
 use Rattle.analysis_commands.specs.declared.facts.FactsRefusal.{FactsRefusal}
 use Rattle.analysis_commands.specs.declared.facts.FactsRefusal.TheVariants as facts_refusals
@@ -137,6 +138,19 @@ operands_refuse first end old new endings.ReadFault h = tt
 operands_refuse first end old new endings.NoMemory h = tt
 operands_refuse first end old new e h = absurd h
 
+-- ---- a machine that doesn't hold what is linked, and a circuit that isn't made
+
+unfit_refuses : (s : Settings) (l : Parts) (e : Ending) → IsUnheld s l e → IsRefusing e
+unfit_refuses s l (endings.TooLong method name blocks limit) h = tt
+unfit_refuses s l (endings.Refused refusal) h = tt
+unfit_refuses s l endings.NoMemory h = tt
+unfit_refuses s l e h = absurd h
+
+unmade_refuses : (e : Ending) → IsUnmade e → IsRefusing e
+unmade_refuses (endings.Refused refusal) h = tt
+unmade_refuses endings.NoMemory h = tt
+unmade_refuses e h = absurd h
+
 -- ---- an answer without a text refuses, or says that a certificate holds
 
 pub data Says (e : Ending) : Type 0 where
@@ -156,6 +170,7 @@ linked_says words (questions.Loops true) l operands e is = refuses (refusing_by 
 linked_says words (questions.Loops false) l operands e is = refuses (refusing_by e endings.NoMemory is tt)
 linked_says words questions.Headers l operands e ends = refuses (refusing_by e (header_ending ends.fault) ends.says (header_refuses ends.fault))
 linked_says words questions.Memory l operands e ends = refuses (refusing_by e (memory_ending ends.refusal) ends.says (need_refuses ends.refusal))
+linked_says words (questions.Rtl s) l operands e ends = refuses (⊎_elim (λ un. unfit_refuses s l e un) (λ m. unmade_refuses e m.1) ends)
 
 pub too_long_refuses : (s : Settings) (image : BareContent) (e : Ending) → EndsTooLong s image e → IsRefusing e
 too_long_refuses s image e long = refusing_by e _ long.says tt
@@ -169,6 +184,7 @@ bare_refuses (questions.Report s method) image operands e ends = ⊎_elim (too_l
 bare_refuses (questions.Loops further) image operands e ends = absurd ends
 bare_refuses questions.Headers image operands e ends = refusing_by e (header_ending ends.fault) ends.says (header_refuses ends.fault)
 bare_refuses questions.Memory image operands e ends = refusing_by e (memory_ending ends.refusal) ends.says (need_refuses ends.refusal)
+bare_refuses (questions.Rtl s) image operands e ends = ⊎_elim (too_long_refuses s image e) (λ m. unmade_refuses e m.1) ends
 
 -- ---- by facts
 

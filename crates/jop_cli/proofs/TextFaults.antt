@@ -165,6 +165,7 @@ module _ (one : BoundsFaultsAreOne) (not_refused : ReadIsNotRefused) (l : Parts)
   no_text words (questions.Loops further) text is answer = none≢some s is
   no_text words questions.Headers text is answer = none≢some s is
   no_text words questions.Memory text is answer = none≢some s is
+  no_text words (questions.Rtl x) text is answer = none≢some s is
 
   -- the line says the fault
   line_told : (words : List (List ℕ)) (question : Question) (ending : Ending) → cache_asked question ≡ Some s → IsAnswer words question l files (Ends ending)
@@ -186,6 +187,7 @@ module _ (one : BoundsFaultsAreOne) (not_refused : ReadIsNotRefused) (l : Parts)
   line_told words (questions.Loops further) ending is answer = absurd (none≢some s is)
   line_told words questions.Headers ending is answer = absurd (none≢some s is)
   line_told words questions.Memory ending is answer = absurd (none≢some s is)
+  line_told words (questions.Rtl x) ending is answer = absurd (none≢some s is)
 
 -- ---- bounds and lengths
 

@@ -39,7 +39,9 @@ pub use Rattle.jop_cli.specs.promises.Loops.{LoopLinesAreOne, FurtherLinesAreOne
 pub use Rattle.jop_cli.specs.promises.Headers.{HeaderFilesAreTaken, HeaderFilesHaveBounds, NotedLoopsAreKept, HeadersAreShown, HeaderFilesAreOne}
 -- `memory`: the words that it tells suffice, in each run of what is linked.
 pub use Rattle.jop_cli.specs.promises.Memory.{NeedsSuffice, NeedsAreShown, NeedsSufficeInRuns, NeedsAreOne, NeedsAreNotRefused, NeedCausesAreTold}
--- What is asked of an image is answered: `check`, `bound`, `report`, `loops`, `headers`, `memory`.
+-- `rtl`: what is put is the text of a circuit that is the machine with the image in it.
+pub use Rattle.jop_cli.specs.promises.Circuits.{CircuitsAreShown}
+-- What is asked of an image is answered: `check`, `bound`, `report`, `loops`, `headers`, `memory`, `rtl`.
 pub use Rattle.jop_cli.specs.promises.Questions.{QuestionsAreAnswered}
 -- `asm`: the words of a text are put, what refuses it is answered, and is one.
 pub use Rattle.jop_cli.specs.promises.Asm.{AssemblingIsComplete, AsmRefusalsAreAnswered, AsmRefusalsAreOne, ListingsAreShown}

@@ -4,7 +4,7 @@ use Rattle.command_line.specs.declared.command.Settings.{Settings}
 use Rattle.command_line.specs.declared.command.Command.{Command}
 use Rattle.command_line.specs.declared.command.Command.TheVariants as commands
 use Rattle.command_line.specs.Range.{AreSettings}
-use Rattle.ask_commands.specs.declared.asking.Question.TheVariants.{Check, Bound, Bounds, Shapes, Report, Loops, Headers, Memory}
+use Rattle.ask_commands.specs.declared.asking.Question.TheVariants.{Check, Bound, Bounds, Shapes, Report, Loops, Headers, Memory, Rtl}
 use Rattle.ask_commands.specs.declared.asking.Asked.{Asked}
 use Rattle.ask_commands.specs.declared.priced_files.PricedQuestion.TheVariants.{CheckWith, BoundWith}
 use Rattle.ask_commands.specs.declared.priced_files.AskedWith.{AskedWith}
@@ -42,6 +42,10 @@ heading image operands = record { question = Headers; image = image; operands = 
 abbrev pub needing : (image : ℕ) → Asked
 needing image = record { question = Memory; image = image; operands = 3 }
 
+-- the circuit of a machine with these settings
+abbrev pub making_circuit : Settings → (image : ℕ) → Asked
+making_circuit s image = record { question = Rtl s; image = image; operands = 1 }
+
 -- by the facts of a word
 abbrev pub checking_with : Settings → (facts image : ℕ) → AskedWith
 checking_with s facts image = record { question = CheckWith s; image = image; operands = 3; facts = facts }
@@ -68,6 +72,7 @@ task_of (commands.Headers image operands) = Ask (heading image operands)
 task_of (commands.Memory image bounds sizes) = Ask (needing image)
 task_of (commands.Plan s rounds table bounds first) = Plan s rounds table
 task_of (commands.Cycle s rounds table first) = Cycle s rounds table
+task_of (commands.Rtl s image) = Ask (making_circuit s image)
 task_of (commands.Asm text) = Assemble text
 task_of (commands.Work n) = Work n
 

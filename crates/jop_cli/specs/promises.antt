@@ -21,4 +21,5 @@ pub mod Asm
 pub mod Work
 pub mod Refusals
 pub mod Facts
+pub mod Circuits
 pub mod Texts

@@ -12,6 +12,7 @@ ghost use Rattle.jop_cli.specs.promises.Loops.{WrittenLoopsCount, CountedLoopsAr
 ghost use Rattle.jop_cli.specs.promises.Loops.{LoopLinesAreOne, FurtherLinesAreOne};
 ghost use Rattle.jop_cli.specs.promises.Headers.{HeaderFilesAreTaken, HeaderFilesHaveBounds, NotedLoopsAreKept, HeadersAreShown, HeaderFilesAreOne};
 ghost use Rattle.jop_cli.specs.promises.Questions.{QuestionsAreAnswered};
+ghost use Rattle.jop_cli.specs.promises.Circuits.{CircuitsAreShown};
 ghost use Rattle.jop_cli.specs.promises.Memory.{NeedsSuffice, NeedCausesAreTold, NeedsAreNotRefused, NeedsAreOne, NeedsAreShown, NeedsSufficeInRuns};
 ghost use Rattle.jop_cli.specs.promises.Profile.{ProfilesAreComplete, ProfilesAreKept, ProfilesAreShown};
 ghost use Rattle.jop_cli.specs.promises.Plan.{ExecutivesAreThere, PlansAreAnswered, PlansAreKept, PlansAreOne};
@@ -289,6 +290,11 @@ pub fn headers_bound_loops()
     found_loops_count();
     loops_count();
 }
+
+/// Where the answer is that the text of a circuit is written, it is that of the machine with the image in it.
+pub fn circuits_are_shown()
+    ensures { CircuitsAreShown }
+{}
 
 /// What is asked of an image that is linked is answered.
 pub fn questions_are_answered()

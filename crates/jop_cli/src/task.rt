@@ -87,6 +87,17 @@ fn ask_with(question: PricedQuestion, image: u32, operands: u32, facts: u32) -> 
     })
 }
 
+/// The plan of so many rounds of the table of a word.
+fn plan(settings: Settings, rounds: u32, table: u32) -> Task
+    ensures { result ≡ Task.Plan settings rounds table }
+{
+    Task::Plan {
+        settings,
+        rounds,
+        table,
+    }
+}
+
 /// What the command does.
 pub(crate) fn task_of(command: Command) -> Task
     ensures task { result ≡ task_of command }
@@ -159,11 +170,7 @@ pub(crate) fn task_of(command: Command) -> Task
             rounds,
             table,
             ..
-        } => Task::Plan {
-            settings,
-            rounds,
-            table,
-        },
+        } => plan(settings, rounds, table),
         Command::Cycle {
             settings,
             rounds,
@@ -174,6 +181,7 @@ pub(crate) fn task_of(command: Command) -> Task
             rounds,
             table,
         },
+        Command::Rtl { settings, image } => ask(Question::Rtl { settings }, image, 1),
         Command::Asm { text } => Task::Assemble { text },
         Command::Work { count } => Task::Work { count },
     }

@@ -1,4 +1,4 @@
--- What is asked of an image, by `check`, `bound`, `report`, `loops`, `headers` or `memory`, is answered.
+-- What is asked of an image, by `check`, `bound`, `report`, `loops`, `headers`, `memory` or `rtl`, is answered.
 use Rattle.std.specs.Prelude.{◌≡◌, ℕ, List, [], Vec, length, Ok}
 use Rattle.std.specs.declared.alloc.Global.{Global}
 use Rattle.image_file.specs.Linked as file

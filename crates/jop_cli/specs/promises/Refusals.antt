@@ -19,7 +19,7 @@ use Rattle.ask_commands.specs.declared.asking.Question.{Question}
 use Rattle.ask_commands.specs.declared.priced_files.PricedQuestion.{PricedQuestion}
 use Rattle.ask_commands.specs.declared.priced_files.PricedQuestion.TheVariants.{CheckWith, BoundWith}
 use Rattle.jop_cli.specs.declared.task.Task.TheVariants.{Run, Profile, Plan, Cycle, Assemble, Link, Ask, AskWith, Work}
-use Rattle.ask_commands.specs.declared.asking.Question.TheVariants.{Check, Bound, Bounds, Shapes, Report, Loops, Headers, Memory}
+use Rattle.ask_commands.specs.declared.asking.Question.TheVariants.{Check, Bound, Bounds, Shapes, Report, Loops, Headers, Memory, Rtl}
 use Rattle.jop_cli.specs.declared.task.Task.{Task}
 use Rattle.jop_cli.specs.promises.Answers.{AnswersEnding, AnswersRefusal}
 use Rattle.jop_cli.specs.promises.Plan.{AreReadied}
@@ -131,7 +131,7 @@ DifferingImagesAreRefused =
 
 -- ---- the machine
 
--- the settings whose method cache each code is to fit, where there are any
+-- the settings whose method cache each code is to fit, where there are any: those by which bounds are taken
 abbrev pub cache_asked : Question → Option Settings
 cache_asked (Check settings) = Some settings
 cache_asked (Bound settings method) = Some settings
@@ -141,6 +141,12 @@ cache_asked (Report settings method) = Some settings
 cache_asked (Loops further) = None
 cache_asked Headers = None
 cache_asked Memory = None
+cache_asked (Rtl settings) = None
+
+-- and those of a circuit
+abbrev pub cache_of : Question → Option Settings
+cache_of (Rtl settings) = Some settings
+cache_of question = cache_asked question
 
 -- by facts there always are some
 abbrev pub cache_with : PricedQuestion → Settings
@@ -152,15 +158,21 @@ cache_needed (Run settings show image) = Some settings
 cache_needed (Profile settings image) = Some settings
 cache_needed (Plan settings rounds table) = Some settings
 cache_needed (Cycle settings rounds table) = Some settings
-cache_needed (Ask asked) = cache_asked asked.question
+cache_needed (Ask asked) = cache_of asked.question
 cache_needed (AskWith asked) = Some (cache_with asked.question)
 cache_needed task = None
 
--- the settings whose memory is to hold the words: those of a command that runs them
+-- the settings whose memory is to hold the words, where there are any: those of a circuit
+abbrev pub memory_asked : Question → Option Settings
+memory_asked (Rtl settings) = Some settings
+memory_asked question = None
+
+-- and those of a command that runs them
 abbrev pub memory_needed : Task → Option Settings
 memory_needed (Run settings show image) = Some settings
 memory_needed (Profile settings image) = Some settings
 memory_needed (Cycle settings rounds table) = Some settings
+memory_needed (Ask asked) = memory_asked asked.question
 memory_needed task = None
 
 -- What a command works on: what is linked, whose image it takes; or what the class files behind a table are linked to, with the executive of its slots.
