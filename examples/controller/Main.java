@@ -19,7 +19,7 @@ public class Main {
         int level = sample;
         try {
             for (int i = 0; i < STAGES.length; i++) { //@WCA loop=2
-                level = STAGES[i].step(level);
+                level = STAGES[i].step(level); //@WCA total<=2
             }
         } catch (Overload overload) {
             overloads++;

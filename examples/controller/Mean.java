@@ -8,7 +8,7 @@ class Mean implements Stage {
         next = (next + 1) % last.length;
         int sum = 0;
         for (int age = 0; age < last.length; age++) { //@WCA loop=4
-            int place = (next + last.length - 1 - age) % last.length;
+            int place = (next + last.length - 1 - age) % last.length; //@WCA total<=4
             sum += last[place] * Weights.of(age);
         }
         return sum / Weights.sum();

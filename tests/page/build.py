@@ -36,7 +36,7 @@ def options_of_a_file(jop, folder):
     os.mkdir(room)
     made = changes.tank(jop, room)
     whole = [made.text(name) for name in ("wcet.json", "wcet.html")]
-    text = """main = "plant.Tank"\nsource = "src"\nblocks = 8 # of the cache\nclasses = ["classes"]\nbounds = ["tank.bounds"]\nsizes = "tank.sizes"
+    text = """main = "plant.Tank"\nsource = "src"\nblocks = 8 # of the cache\nclasses = ["classes"]\nbounds = ["tank.bounds"]\nfacts = "tank.facts"\nsizes = "tank.sizes"
 report = "tank.report"\ninput = ["levels"]\n"""
     put(f"{room}/wcet.toml", text.encode())
     here = Made(jop, room)

@@ -16,6 +16,7 @@ from wcet_page import initialisers, notes, shared
 import browser
 import build
 import changes
+import visits
 from tool import CONTROLLER, HERE, TOP, Made, differ, page_faults, put
 
 FAULTS = [
@@ -342,18 +343,27 @@ def unfinished(jop, folder):
 
 
 def makefile(jop, folder):
-    """the example's makefile: it makes a page, fails as often as it is called while a deadline is missed, and passes behind that"""
+    """the example's makefile: from the sources it makes a page, fails as often as it is called while a deadline is missed or a note lacks, and passes
+    behind that; without javac it makes the page of the class files that are there"""
     if not shutil.which("make"):
         yield "skipped makefile: make is missing (apt-get install make)"
         return
     shutil.copytree(CONTROLLER, f"{folder}/controller", ignore=shutil.ignore_patterns("wcet", "own", "host"))
 
-    def made():
-        words = ["make", f"WCET={TOP}/tools/wcet --jop {jop}", "wcet/wcet.html"]
+    def made(target="wcet/wcet.html" if shutil.which("javac") else "page"):
+        words = ["make", f"WCET={TOP}/tools/wcet --jop {jop}", target]
         return subprocess.run(words, cwd=f"{folder}/controller", capture_output=True, text=True, check=False)
     ran = made()
     yield from differ("made", (0, True), (ran.returncode, os.path.isfile(f"{folder}/controller/wcet/wcet.html")))
-    yield from differ("nothing to do", True, "up to date" in made().stdout)
+    yield from differ("of the class files", 0, made("page").returncode)
+    if shutil.which("javac"):
+        yield from differ("nothing to do", True, "up to date" in made().stdout)
+        with open(f"{folder}/controller/Main.java", encoding="utf-8") as file:
+            source = file.read()
+        for edited, status in ((source.replace("//@WCA loop=12", ""), 2), (source, 0)):
+            put(f"{folder}/controller/Main.java", edited.encode())
+            os.utime(f"{folder}/controller/Main.java", (os.path.getmtime(f"{folder}/controller/own/compiled") + 2,) * 2)
+            yield from differ("a source that was edited", status, made().returncode)
     with open(f"{folder}/controller/deadlines", encoding="utf-8") as file:
         text = file.read()
     later = os.path.getmtime(f"{folder}/controller/wcet/wcet.html") + 2
@@ -363,20 +373,47 @@ def makefile(jop, folder):
         yield from differ(f"a deadline of {deadline}", status, made().returncode)
 
 
+def executive_makefile(jop, folder):
+    """the makefile of the executive: it plans the slots, puts them on the page, and leaves no plan where a slot may be late"""
+    if not shutil.which("make"):
+        yield "skipped executive_makefile: make is missing (apt-get install make)"
+        return
+    for name in ("controller", "executive"):
+        shutil.copytree(f"{TOP}/examples/{name}", f"{folder}/{name}", ignore=shutil.ignore_patterns("wcet", "own", "host"))
+
+    def made(target):
+        words = ["make", f"WCET={TOP}/tools/wcet --jop {jop}", target]
+        paths = {**os.environ, "PATH": f"{os.path.dirname(jop)}:{os.environ['PATH']}"}
+        return subprocess.run(words, cwd=f"{folder}/executive", capture_output=True, text=True, check=False, env=paths).returncode
+    yield from differ("made", 0, made("wcet/wcet.html"))
+    with open(f"{folder}/executive/wcet/wcet.json", encoding="utf-8") as file:
+        yield from differ("slots", [True] * 3, [each["kept"] for each in json.load(file)["executive"]["slots"]])
+    with open(f"{folder}/executive/slots.plan", encoding="utf-8") as file:
+        yield from differ("the plan", 3, len(file.read().splitlines()))
+    with open(f"{folder}/executive/slots.table", encoding="utf-8") as file:
+        text = file.read()
+    later = os.path.getmtime(f"{folder}/executive/slots.plan") + 2
+    for table, status in ((text.replace("36000", "30000"), 2), (text.replace("36000", "30000"), 2), (text, 0)):
+        put(f"{folder}/executive/slots.table", table.encode())
+        os.utime(f"{folder}/executive/slots.table", (later, later))
+        came = made("slots.plan")
+        yield from differ("a plan", (status, not status), (came, os.path.isfile(f"{folder}/executive/slots.plan")))
+
+
 def deadlines(jop, folder):
     """deadlines that bounds keep, and each that they don't"""
     put(f"{folder}/due", b"# cycles\n\nMean.step(I)I 10632\nMain.output(I)I 40000\n")
     made = controller_made(jop, folder, "--deadlines", "due")
     yield from differ("kept", (0, []), (made.status, made.told))
-    yield from differ("on the page", True, "10,632 9,760" in made.page().text().replace("10,632 10,632", "10,632"))
+    yield from differ("on the page", True, "10,632 10,304 10,632 9,760" in made.page().text())
     yield from page_faults(made)
-    put(f"{folder}/due", b"Mean.step(I)I 10631\nMain.output(J)I 1\nMain.main([Ljava/lang/String;)V 443776 cycles\nMean.step(I)I 2\nGain.<init>(II)V 579\n")
+    put(f"{folder}/due", b"Mean.step(I)I 10303\nMain.output(J)I 1\nMain.main([Ljava/lang/String;)V 443776 cycles\nMean.step(I)I 2\nGain.<init>(II)V 537\n")
     made = Made(jop, folder, "--main", "Main", "--source", ".", "--deadlines", "due", "--method", "Weights.sum()I", "classes")
-    wanted = ["due:1:15: error: Mean.step(I)I: the bound 10632 doesn't keep the deadline 10631, which it passes by 1",
+    wanted = ["due:1:15: error: Mean.step(I)I: the bound 10304 by facts doesn't keep the deadline 10303, which it passes by 1",
               "due:2:1: error: no method Main.output(J)I; is Main.output(I)I meant?",
               "due:3:1: error: no line of deadlines: `Main.main([Ljava/lang/String;)V 443776 cycles`",
               "due:4:1: error: a second deadline of Mean.step(I)I",
-              "due:5:18: error: Gain.<init>(II)V: the bound 580 doesn't keep the deadline 579, which it passes by 1", "5 errors"]
+              "due:5:18: error: Gain.<init>(II)V: the bound 538 by facts doesn't keep the deadline 537, which it passes by 1", "5 errors"]
     yield from differ("told", (1, wanted), (made.status, made.heads()))
     yield from differ("asked for", {"Weights.sum()I", "Mean.step(I)I", "Gain.<init>(II)V"}, {each["method"] for each in made.record()["methods"] if each["asked"]})
 
@@ -392,7 +429,7 @@ def since(jop, folder):
     yield from differ("checked anew", 0, Made(jop, folder, "--check", "out").status)
     with open(f"{folder}/Mean.java", encoding="utf-8") as file:
         text = file.read()
-    put(f"{folder}/Mean.java", text.replace("loop=4", "loop=5").encode())
+    put(f"{folder}/Mean.java", text.replace("loop=4", "loop=5").replace("total<=4", "total<=5").encode())
     made = Made(jop, folder, *words, "classes")
     wanted = ["Main.java:11:9: error: the bound of Main.main([Ljava/lang/String;)V grew by ", "Main.java:19:9: error: the bound of Main.output(I)I grew by ",
               "Mean.java:3:34: error: the bound of Mean.step(I)I grew by ", "wcet: remark: what is supposed of Mean.step(I)I loop 1: was 4, and is 5"]
@@ -403,7 +440,7 @@ def since(jop, folder):
     yield from differ("shrank", 0, made.status)
     yield from page_faults(made)
     made = Made(jop, folder, "--main", "plant.Tank", "--against", "earlier.json", f"{HERE}/classes/plant/Tank.class", f"{HERE}/classes/plant/Range.class")
-    yield from differ("gone", True, "wcet: remark: Gain.step(I)I: was 1416, and is gone" in made.told)
+    yield from differ("gone", True, "wcet: remark: Gain.step(I)I: was 1392, and is gone" in made.told)
     yield from differ("new", True, any(line.startswith("wcet: remark: plant/Range.least(II)I: is new, ") for line in made.told))
     put(f"{folder}/earlier.json", b"{}")
     made = Made(jop, folder, *words, "classes")
@@ -594,5 +631,5 @@ def many_digits(jop, folder):
         yield from browser.page_faults(f"{made.out}/wcet.html", folder)
 
 
-CASES = [*build.CASES, in_a_browser, many_digits, controller, options, two_inputs, same_twice, starting, promised, longs, faults, two_loops, heads_of_loops, broken, refused, lengths, link_refused, misled, interchange, unfinished, makefile, deadlines, since, wrong_words, moved,
+CASES = [*build.CASES, *visits.CASES, in_a_browser, many_digits, controller, options, two_inputs, same_twice, starting, promised, longs, faults, two_loops, heads_of_loops, broken, refused, lengths, link_refused, misled, interchange, unfinished, makefile, executive_makefile, deadlines, since, wrong_words, moved,
          *map(change_rows, range(changes.PARTS)), other_programs, comments, rings, written_names, line_separator, odd_names]

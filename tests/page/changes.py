@@ -7,6 +7,7 @@ from tool import HERE, Made, differ, put
 
 SIZES, REPORT = "plant/Tank.levels(I)[I 1 length<=4\n", "replaced plant/Tank.sum line 21: a loop by a loop\n"
 BOUNDS = "plant/Tank.levels(I)[I 6 loop<=5\n"
+FACTS = "plant/Tank.levels(I)[I 12 total<=4 per 6\nplant/Tank.java:20 total<=4\n"
 PAGE, RECORD = "wcet.html", "wcet.json"
 # How many rows there are for each case, so that cases run beside one another.
 PARTS = 4
@@ -14,11 +15,13 @@ PARTS = 4
 
 def tank(jop, folder, *words):
     """the page of a small program with all that may be handed in"""
-    for name, text in (("levels", b"\x03\x01\x02\x03"), ("tank.sizes", SIZES.encode()), ("tank.report", REPORT.encode()), ("tank.bounds", BOUNDS.encode())):
+    for name, text in (("levels", b"\x03\x01\x02\x03"), ("tank.sizes", SIZES.encode()), ("tank.report", REPORT.encode()), ("tank.bounds", BOUNDS.encode()),
+                       ("tank.facts", FACTS.encode())):
         put(f"{folder}/{name}", text)
     shutil.copytree(f"{HERE}/src/plant", f"{folder}/src/plant")
     shutil.copytree(f"{HERE}/classes/plant", f"{folder}/classes/plant")
-    given = ("--input", "levels", "--sizes", "tank.sizes", "--report", "tank.report", "--bounds", "tank.bounds", "--blocks", "8", "--source", "src", *words)
+    given = ("--input", "levels", "--sizes", "tank.sizes", "--report", "tank.report", "--bounds", "tank.bounds", "--blocks", "8", "--source", "src",
+             "--facts", "tank.facts", *words)
     return Made(jop, folder, "--main", "plant.Tank", *given, "classes")
 
 
@@ -182,7 +185,8 @@ ROWS = [
     ("no report", dropped(lambda kept: kept["files"], "report"), "given/report/tank.report"),
     ("no sizes", dropped(lambda kept: kept["files"], "sizes"), "array without a greatest length"),
     ("a file that leads out of the folder", assign(lambda kept: kept["files"]["report"], "path", "../../elsewhere/../../levels"), "not found"),
-    ("the form", assign(lambda kept: kept, "form", 1), "no record of a program that was bounded"),
+    ("the form", assign(lambda kept: kept, "form", 1), "a record of form 1, and not of form 4"),
+    ("no form", assign(lambda kept: kept, "form", "4"), "no record of a program that was bounded"),
     ("a main class that is no name", assign(lambda kept: kept, "main", "plant.Tank\0"), "names of a main class and of methods are wanted"),
     ("sources that are none", assign(lambda kept: kept, "sources", 3), "lists of files are wanted"),
     ("no record", lambda moved: put(moved.path(RECORD), b"[]"), "no record of a program that was bounded"),
@@ -213,6 +217,31 @@ ROWS = [
     ("without certificates", lambda moved: shutil.rmtree(moved.path("certificates")), ".cert: error: not found"),
     ("without a record", removed(RECORD), "wcet.json: No such file or directory"),
 ]
+# Of facts.
+FACT_ROWS = [
+    ("a number by facts on the page", replaced(PAGE, "</data></b><span>cycles of main at most, by", "9</data></b><span>cycles of main at most, by"), "tank/wcet.html:"),
+    ("who gave a fact", replaced(PAGE, "file (given/facts/tank.facts:1)", "file (given/facts/tank.facts:2)"), "tank/wcet.html:"),
+    ("a number by facts", assign(lambda kept: own(kept)["by_facts"]["bound"], "value", 7), "by_facts bound: recorded 7, found "),
+    ("checked by facts", assign(lambda kept: own(kept)["by_facts"], "checked", False), "by_facts checked: recorded false, found true"),
+    ("a check by facts", record(lambda kept: own(kept)["by_facts"]["checks"].pop()), "by_facts checks"),
+    ("prices", record(lambda kept: method(kept, "plant/Tank.levels")["by_facts"]["prices"].clear()), "by_facts prices"),
+    ("the digest of a certificate by facts", assign(lambda kept: own(kept)["by_facts"]["certificate"], "sha256", "0"), "not the file of the record"),
+    ("no number by facts", record(lambda kept: own(kept).pop("by_facts")), "by_facts: recorded nothing"),
+    ("a fact", assign(lambda kept: kept["facts"]["lines"][0]["most"], "value", 3), "most: recorded 3, found 4"),
+    ("who gives it", assign(lambda kept: kept["facts"]["lines"][0]["by"][0], "line", 2), "by file line: recorded 2, found 1"),
+    ("visits that were seen", assign(lambda kept: kept["facts"]["lines"][0]["seen"][0], "visits", 1), "visits: recorded 1, found 3"),
+    ("no facts", assign(lambda kept: kept, "facts", None), "facts: recorded nothing"),
+    ("no file of facts", assign(lambda kept: kept["files"], "facts", []), "tank/given/facts/tank.facts"),
+    ("files of facts that are none", dropped(lambda kept: kept["files"], "facts"), "lists of files are wanted"),
+    ("the text of facts", replaced("wcet.facts", "total<=4", "total<=3"), "tank/wcet.facts:"),
+    ("facts that were handed in", replaced("given/facts/tank.facts", "total<=4", "total<=3"), "tank/given/facts/tank.facts: error: not the file of the record"),
+    ("without the text of facts", removed("wcet.facts"), "tank/wcet.facts: error: not found"),
+    ("without facts that were handed in", removed("given/facts/tank.facts"), "tank/given/facts/tank.facts: error: not found"),
+    ("without a certificate by facts", lambda moved: removed(f"certificates/{next(name for name in os.listdir(moved.path('certificates')) if 'facts' in name)}")(moved),
+     "-facts.cert: error: not found"),
+]
+
+
 def told_of(jop, folder, rows):
     """what isn't told of some changes"""
     made = tank(jop, folder)

@@ -125,7 +125,7 @@ def figure_faults(made, figures):
         known = lines[command]
         if line not in known and not any(each.startswith(line + " ") for each in known if command.endswith(".cert")):
             faults.append(f"`{command}` doesn't put `{line}`")
-        elif value not in re.split(r"[ =]", re.sub("(loop|length)<=", "=", line)):
+        elif value not in re.split(r"[ =]", re.sub("(loop|length|total)<=", "=", line)):
             faults.append(f"{value} doesn't stand in `{line}`")
     return faults
 

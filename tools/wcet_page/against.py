@@ -2,6 +2,8 @@
 import json
 import os
 
+from .answers import claimed
+
 
 def read_earlier(folder, given, told):
     """the earlier record, none where none is given or it is none"""
@@ -10,17 +12,17 @@ def read_earlier(folder, given, told):
     with open(os.path.join(folder, given["path"]), "rb") as file:
         try:
             kept = json.loads(file.read())
-            return {"methods": dict(bounds_of(kept)), "loops": dict(loops_of(kept))}
+            return {"methods": dict(bounds_of(kept)), "loops": dict(loops_of(kept)), "facts": dict(facts_of(kept))}
         except (ValueError, LookupError, TypeError, AttributeError, RecursionError):
             told.error("against", "no record of a program that was bounded", given["path"])
     return None
 
 
 def bounds_of(record):
-    """the bounds of methods of the class files, by name"""
+    """the bounds of methods of the class files, by name: those by facts where there are such"""
     for each in record["methods"]:
         if each["own"]:
-            yield each["method"], each["bound"]["value"]
+            yield each["method"], claimed(each)["value"]
 
 
 def loops_of(record):
@@ -29,6 +31,15 @@ def loops_of(record):
     for each in record["loops"]:
         at = count[each["method"]] = count.get(each["method"], 0) + 1
         yield f"{each['method']} loop {at}", each["bound"] and each["bound"]["value"]
+
+
+def facts_of(record):
+    """what is supposed of visits, by the method's name, the number of the fact in it, and its scope"""
+    count = {}
+    for each in (record.get("facts") or {}).get("lines", []):
+        at = count[each["method"]] = count.get(each["method"], 0) + 1
+        scope = " per entry" if each["per"] is not None else f" in {each['root']}" if each["root"] else ""
+        yield f"{each['method']} fact {at}{scope}", each["most"] and each["most"]["value"]
 
 
 def is_greater(old, new):
@@ -45,7 +56,7 @@ def compared(earlier, study):
     """the changes as they go into the record; bounds that grew are errors"""
     record, told = study.record, study.told
     by_name = {each["method"]: each for each in record["methods"]}
-    found = {"methods": changes(earlier["methods"], dict(bounds_of(record))), "loops": changes(earlier["loops"], dict(loops_of(record)))}
+    found = {part: changes(earlier[part], dict(those(record))) for part, those in (("methods", bounds_of), ("loops", loops_of), ("facts", facts_of))}
     for name, old, new in found["methods"]:
         method = by_name.get(name)
         at = study.shown((method["file"], method["line"]) if method and method["file"] else None)
@@ -54,7 +65,7 @@ def compared(earlier, study):
             told.error("grew", f"the bound of {name} grew{grown}: it was {old}, and is {new}", *at)
         else:
             told.remark("changed", f"{name}: {said(old, new)}")
-    for name, old, new in found["loops"]:
+    for name, old, new in found["loops"] + found["facts"]:
         told.remark("changed", f"what is supposed of {name}: {said(old, new)}")
     return {part: [{"name": name, "old": old, "new": new} for name, old, new in rows] for part, rows in found.items()}
 

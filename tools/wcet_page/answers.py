@@ -128,3 +128,14 @@ def shapes(answer):
         if match:
             found.append({"blocks": int(match[1]), "words": int(match[2]), "bound": figure(number(match[3]), line, answer.command)})
     return found
+
+
+def claimed(method):
+    """the number that is claimed of a method that is recorded: that by facts, where there is one"""
+    by_facts = method.get("by_facts")
+    return by_facts["bound"] if by_facts else method["bound"]
+
+
+def is_checked(method):
+    """whether both checkers hold each certificate of a method that is recorded"""
+    return method["checked"] and ("by_facts" not in method or bool(method["by_facts"] and method["by_facts"]["checked"]))

@@ -57,11 +57,11 @@ class Jop:
                     break
                 yield line
 
-    def recheck(self, image, bounds, certificate):
-        """what tools/recheck answers, in this process, which keeps the program of the image"""
-        asked = self.words("check", (image, bounds, certificate))[1:]
-        paths = [*asked[:-3], *(os.path.join(self.folder, each) for each in asked[-3:])]
-        line, status = rechecker.answer(paths)
+    def recheck(self, *words):
+        """what tools/recheck answers, in this process, which keeps the program of the image; the words but for options are files"""
+        asked = self.words("check", words)[1:]
+        first = len(asked) - len(words)
+        line, status = rechecker.answer(asked[:first] + [each if each.startswith("--") else os.path.join(self.folder, each) for each in asked[first:]])
         return Answer(shlex.join(["tools/recheck", *asked]), status, b"", line)
 
 

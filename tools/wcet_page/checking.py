@@ -21,8 +21,10 @@ def read_record(folder):
             kept = json.load(file)
         except (ValueError, RecursionError):
             kept = None
-    if not isinstance(kept, dict) or kept.get("form") != FORM or "methods" not in kept:
+    if not isinstance(kept, dict) or type(kept.get("form")) is not int or "methods" not in kept:
         raise WrongWords(f"{path}: no record of a program that was bounded")
+    if kept["form"] != FORM:
+        raise WrongWords(f"{path}: a record of form {kept['form']}, and not of form {FORM}, which this tools/wcet makes: take that of the record's commit")
     return kept
 
 
@@ -35,7 +37,7 @@ def asked_again(asked, kept, told):
     again.sources = [os.path.join(asked.check, "given/sources")] if folder.part("asked").get("source") else []
     again.classes = folder.files(kept.get("classes"))
     files = folder.part("files")
-    again.inputs, again.bounds = folder.files(files.get("inputs")), folder.files(files.get("bounds"))
+    again.inputs, again.bounds, again.facts = (folder.files(files.get(name)) for name in ("inputs", "bounds", "facts"))
     again.files = {name: path for name in FILES if name[2:] in files for path in folder.files([files[name[2:]]])}
     if "adapted" in kept:
         adapted_again(again, folder, told)

@@ -6,9 +6,11 @@ import tempfile
 
 from . import checking, differences, sarif
 from .adapting import Lacking
+from .answers import claimed, is_checked
 from .calls import Jop, step
 from .classes import digest
 from .config import WrongFile
+from .facts import scope_of
 from .folder import PAGE, RECORD, UNFINISHED, Folder, finish, put, require_own
 from .messages import ERROR, Messages, relative
 from .page import page
@@ -82,7 +84,7 @@ def drawn(asked, folder, told, kept=None):
     tell_broken(record, study)
     if kept is not None:
         checking.tell_programs(kept, record, told)
-    missed = [each["method"] for each in record.get("methods", []) if each["asked"] and not each["checked"]]
+    missed = [each["method"] for each in record.get("methods", []) if each["asked"] and not is_checked(each)]
     record["messages"] = [each for each in told.sorted() if each["rule"] not in checking.RULES]
     record["status"] = LACKS if missed or "methods" not in record or any(each["kind"] == ERROR for each in record["messages"]) else FINE
     text = json.dumps(record, indent=1) + "\n"
@@ -93,7 +95,9 @@ def drawn(asked, folder, told, kept=None):
 
 
 def tell_broken(record, study):
-    """tells of runs that go round a loop more often than is supposed, or take longer than a bound"""
+    """tells of runs that go round a loop, or come to a place, more often than is supposed, or take longer than a bound"""
+    for fact in (record.get("facts") or {}).get("lines", []):
+        tell_visits(fact, study)
     for loop in record.get("loops", []):
         bound = loop["bound"]
         for each in loop["seen"]:
@@ -102,14 +106,24 @@ def tell_broken(record, study):
                 text = f"with {each['input']} the loop goes round {each['turns']} times, more than its bound {bound['value']}"
                 study.told.error("broken", f"{text} ({loop['method']} {loop['place']})", *at, "@|\\b(for|while|do)\\b", "raise the bound, or keep it")
     for method in record.get("methods", []):
+        least = claimed(method)["value"]
         for each in method["seen"]:
-            if isinstance(method["bound"]["value"], int) and each["greatest"]["value"] > method["bound"]["value"]:
+            if isinstance(least, int) and each["greatest"]["value"] > least:
                 at = study.shown((method["file"], method["line"]) if method["file"] else None)
-                text = f"with {each['input']} a call took {each['greatest']['value']} cycles, more than the bound"
+                text = f"with {each['input']} a call took {each['greatest']['value']} cycles, more than the {'bound' if least == method['bound']['value'] else 'number by facts'}"
                 study.told.error("broken", f"{text} ({method['method']})", *at)
+
+
+def tell_visits(fact, study):
+    """tells of runs that break a fact"""
+    for each in fact["seen"]:
+        if each["visits"] > fact["most"]["value"]:
+            at = study.shown((fact["file"], fact["line"]) if fact["file"] else None)
+            text = f"with {each['input']} {scope_of(fact)} {each['visits']} visits come, more than the fact `{fact['text']}` allows"
+            study.told.error("broken", text, *at, cure="raise the number, or keep it")
 
 
 def counted(record):
     """how many of the methods that are asked for are bounded"""
     asked = [each for each in record.get("methods", []) if each["asked"]]
-    return f"{sum(each['checked'] for each in asked)} of {len(asked)} methods have a bound that was checked twice"
+    return f"{sum(map(is_checked, asked))} of {len(asked)} methods have a bound that was checked twice"

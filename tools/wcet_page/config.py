@@ -9,7 +9,7 @@ from .words import FILES, FLAGS, NUMBERS, OFTEN, ONCE, WrongWords, nearest, numb
 NAME = "wcet.toml"
 CLASSES = "classes"
 # The options that name files and folders, by paths that are relative to the file.
-PATHS = {"--source", "--bounds", "--input", "--out", "--sarif", "--jop", "--" + CLASSES, *FILES}
+PATHS = {"--source", "--bounds", "--input", "--facts", "--out", "--sarif", "--jop", "--" + CLASSES, *FILES}
 # What isn't said in a file.
 NEVER = {"--config", "--check"}
 KNOWN = [name[2:] for name in (*ONCE, *OFTEN, *FLAGS, *NUMBERS) if name not in NEVER] + [CLASSES]

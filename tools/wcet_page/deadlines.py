@@ -2,7 +2,7 @@
 import os
 import re
 
-from .answers import lines_of
+from .answers import claimed, is_checked, lines_of
 from .words import nearest
 
 ROW = re.compile(r"([^ \n]+) (0|[1-9][0-9]*)")
@@ -43,15 +43,16 @@ class Deadlines:
             if method is None:
                 self.told.error("deadlines", f"no method {each.method}{nearest(each.method, list(by_name))}", self.path, each.line)
                 continue
-            is_kept = method["checked"] and isinstance(method["bound"]["value"], int) and method["bound"]["value"] <= each.cycles
+            bound = claimed(method)["value"]
+            is_kept = is_checked(method) and isinstance(bound, int) and bound <= each.cycles
             found.append({"method": each.method, "cycles": each.cycles, "file": self.path, "line": each.line, "kept": is_kept})
             if not is_kept:
-                self.tell(each, method["bound"]["value"])
+                self.tell(each, bound, " by facts" if method.get("by_facts") else "")
         return found
 
-    def tell(self, deadline, bound):
+    def tell(self, deadline, bound, of):
         by = f" by {bound - deadline.cycles}" if isinstance(bound, int) else ""
-        said = f"the bound {bound}" if isinstance(bound, int) else "that never ends" if bound == "never" else "that has no bound"
+        said = f"the bound {bound}{of}" if isinstance(bound, int) else "that never ends" if bound == "never" else "that has no bound"
         text = f"{deadline.method}: {said} doesn't keep the deadline {deadline.cycles}{by and f', which it passes{by}'}"
         cure = "a longer deadline, or less work: the page shows where the number comes from"
         self.told.error("late", text, self.path, deadline.line, r"\d+$", cure)

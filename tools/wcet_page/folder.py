@@ -9,7 +9,9 @@ from .words import WrongWords
 GIVEN, CERTIFICATES, UNFINISHED = "given", "certificates", "unfinished"
 RECORD, PAGE = "wcet.json", "wcet.html"
 # What lies in a folder beside what was handed in; the page comes last, so that it is the newest.
-MADE = ("wcet.jopi", "wcet.notes", "wcet.bounds", "wcet.sizes", RECORD, PAGE)
+MADE = ("wcet.jopi", "wcet.notes", "wcet.bounds", "wcet.facts", "wcet.sizes", RECORD, PAGE)
+# Those of them that are there only where something was handed in for them.
+SOMETIMES = {"wcet.facts"}
 
 
 class Folder:
@@ -71,7 +73,11 @@ def finish(out):
         if os.path.isdir(os.path.join(room, name)):
             os.rename(os.path.join(room, name), os.path.join(out, name))
     for name in MADE:
-        os.replace(os.path.join(room, name), os.path.join(out, name))
+        if name in SOMETIMES and not os.path.exists(os.path.join(room, name)):
+            if os.path.exists(os.path.join(out, name)):
+                os.remove(os.path.join(out, name))
+        else:
+            os.replace(os.path.join(room, name), os.path.join(out, name))
     os.rmdir(room)
 
 

@@ -6,10 +6,12 @@ from rechecker.texts import read_certificate
 from . import answers, together
 from .answers import figure
 from .classes import digest
+from .facts import FACTS
 from .folder import CERTIFICATES, put
 from .words import nearest
 
 IMAGE, BOUNDS = "wcet.jopi", "wcet.bounds"
+PRICE = re.compile(r"price (\d+r?) (\d+)(?: per (\d+))?")
 # The word with which a loop begins.
 LOOP = r"\b(for|while|do)\b"
 
@@ -66,6 +68,8 @@ class Bounded:
             found["calls"], found["visited"] = self.calls(m), []
             if bound["value"] != "none":
                 self.certify(found)
+                if self.study.facts.is_given:
+                    found["by_facts"] = self.price(found)
             elif cause == "recursion":
                 self.causes[m] = self.jop.call("bound", "--method", name, IMAGE, BOUNDS).line
         return found
@@ -85,21 +89,37 @@ class Bounded:
         put(self.study.folder, path, made.out)
         text = made.out
         found["certificate"] = {"path": path, "sha256": digest(text), "command": f"{made.command} > {path}", "line": last_line(text)}
-        checks = [self.jop.call("check", IMAGE, BOUNDS, path), self.jop.recheck(IMAGE, BOUNDS, path)]
-        found["checks"] = [{"command": each.command, "line": each.line} for each in checks]
-        self.settle(found, checks)
+        found["checks"], found["checked"] = self.checks(found, found["bound"]["value"], path)
         found["turns"] = turns_of(text, found["number"])
         found["report"] = self.report(name)
         found["together"] = together.lines_of(found["number"], name, found["report"], self.methods)
 
-    def settle(self, found, checks):
-        """whether the bound is that of a certificate that both checkers hold"""
-        wanted = f"holds {found['method']} {found['bound']['value']}"
-        found["checked"] = all(each.status == 0 and each.line == wanted for each in checks)
-        for each in checks:
+    def price(self, found):
+        """the number by facts: its certificate, which has prices of them, and what both checkers say of it; none where there is none"""
+        name, path = found["method"], f"{CERTIFICATES}/{found['number']}-facts.cert"
+        made = self.jop.call("bound", "--facts", FACTS, "--method", name, IMAGE, BOUNDS)
+        if made.status:
+            self.told.error("refused", f"{made.command}: {made.line}", *self.at(found))
+            return None
+        put(self.study.folder, path, made.out)
+        line = last_line(made.out)
+        bound = figure(answers.number(line.removeprefix("bound ")), line, path)
+        checks, checked = self.checks(found, bound["value"], path, "--facts", FACTS)
+        certificate = {"path": path, "sha256": digest(made.out), "command": f"{made.command} > {path}", "line": line}
+        return {"bound": bound, "certificate": certificate, "checks": checks, "checked": checked, "prices": prices_of(made.out, found["number"], path)}
+
+    def checks(self, found, number, path, *facts):
+        """what both checkers say of a certificate of a method, and whether they hold it with this number"""
+        wanted = f"holds {found['method']} {number}"
+        said = [self.jop.call("check", *facts, IMAGE, BOUNDS, path), self.jop.recheck(*facts, IMAGE, BOUNDS, path)]
+        for each in said:
             if each.line != wanted:
-                at = self.study.shown((found["file"], found["line"]) if found["file"] else None)
-                self.told.error("certificate", f"{each.command}: `{each.line}`, not `{wanted}`", *at)
+                self.told.error("certificate", f"{each.command}: `{each.line}`, not `{wanted}`", *self.at(found))
+        return [{"command": each.command, "line": each.line} for each in said], all(each.status == 0 and each.line == wanted for each in said)
+
+    def at(self, found):
+        """the first line of a method that is recorded"""
+        return self.study.shown((found["file"], found["line"]) if found["file"] else None)
 
     def report(self, name):
         answer = self.jop.call("report", "--method", name, IMAGE, BOUNDS)
@@ -176,4 +196,15 @@ def turns_of(text, m):
     for section in sections:
         for word, header, cost, _ in section.loops:
             found[str(header // 2)] = figure(cost, f"{word} {header // 2} {cost}", f"certificates/{m}.cert")
+    return found
+
+
+def prices_of(text, m, path):
+    """the prices of facts of a method in its certificate: what a visit of a node gives back, and from which entries of a loop on"""
+    found, is_its = [], False
+    for line in text.decode("latin-1").split("\n"):
+        is_its = line.endswith(f" {m}") if line.startswith("section ") else is_its
+        price = PRICE.fullmatch(line) if is_its else None
+        if price:
+            found.append({"node": price[1], "per": int(price[3]) if price[3] else None, "price": figure(int(price[2]), line, path)})
     return found

@@ -1,8 +1,9 @@
-"""Sources, and the bounds of loops and the lengths of arrays in their comments. Not proved: a tool.
+"""Sources, and the bounds of loops, the lengths of arrays and the visits of lines in their comments. Not proved: a tool.
 
 A note is `@WCA loop=N` (or `loop<=N`) anywhere in a comment of one line, or `@ loop <= N` at its beginning; behind N stands
 nothing, a blank and `(`, or `//`. It belongs to the line on which it stands; where it stands alone there, to the next line of
-code. A note `@WCA length=N` is the same of arrays that are made at a line.
+code. A note `@WCA length=N` is the same of arrays that are made at a line, and `@WCA total<=N` of how often the code of a line
+begins, in a call of its method; with `in NAME` behind it, in one of that method. A comment may have several notes behind `//`.
 """
 import difflib
 import os
@@ -13,16 +14,22 @@ from .classes import digest
 # What may hold `//` and isn't a comment, and comments.
 TOKEN = re.compile(r'//[^\n]*|/\*.*?\*/|"""(?:\\.|[^\\])*?"""|"(?:\\.|[^"\\\n])*"|\'(?:\\.|[^\'\\\n])*\'', re.S)
 NUMBER = r"(0|[1-9][0-9]{0,9})"
-BEHIND = r"(?=\s*$|\s+\(|\s*//)"
-LOOP, LENGTH = "loop", "length"
-NOTES = {kind: [re.compile(rf"@WCA\s+{kind}\s*(?:<=|=)\s*{NUMBER}{BEHIND}"), re.compile(rf"^@\s*{kind}\s*<=\s*{NUMBER}{BEHIND}")] for kind in (LOOP, LENGTH)}
+BEHIND = r"(?=\s*$|\s+\()"
+LOOP, LENGTH, TOTAL = "loop", "length", "total"
+# The method in whose calls the visits of a line are counted.
+ROOT = {LOOP: "", LENGTH: "", TOTAL: r"(?:\s+in\s+(\S+))?"}
+NOTES = {kind: [re.compile(rf"@WCA\s+{kind}\s*(?:<=|=)\s*{NUMBER}{root}{BEHIND}"), re.compile(rf"^@\s*{kind}\s*<=\s*{NUMBER}{root}{BEHIND}")]
+         for kind, root in ROOT.items()}
 MARK = re.compile(r"@\s*wca\b", re.I)
 WORD = re.compile(r"@\s*([A-Za-z]+)(?![\w.])")
-# Where a caret points in a line with a note.
-AT = r"@\s*\w"
+KIND = re.compile(r"@\s*wca\s+([A-Za-z]+)", re.I)
+# How notes are written.
+WRITTEN = {LOOP: "`@WCA loop=N` or `@ loop <= N`", LENGTH: "`@WCA length=N` or `@ length <= N`", TOTAL: "`@WCA total<=N` or `@ total <= N`"}
+# Where a caret points in a line with a note, and with one of visits.
+AT, AT_TOTAL = r"@\s*\w", r"@\s*(WCA\s+)?total\b"
 # How alike the first word of a comment is to that of a note, where it is taken for one that is misspelt.
 ALIKE = 0.66
-MOST = {LOOP: 2**32 - 1, LENGTH: 2**31 - 1}
+MOST = {LOOP: 2**32 - 1, LENGTH: 2**31 - 1, TOTAL: 2**32 - 1}
 
 
 class Source:
@@ -35,13 +42,13 @@ class Source:
 
 
 class Note:
-    """what a comment says of the loops, or of the arrays, of a line: `at` is the comment's own line"""
+    """what a comment says of the loops, the arrays or the visits of a line: `at` is the comment's own line, `root` the method in whose calls it is said"""
 
-    def __init__(self, source, at, line, bound):
-        self.source, self.at, self.line, self.bound = source, at, line, bound
+    def __init__(self, source, at, line, bound, root=None):
+        self.source, self.at, self.line, self.bound, self.root = source, at, line, bound, root
 
-    def text(self):
-        return f"{self.source.file}:{self.line} loop<={self.bound}"
+    def text(self, kind=LOOP):
+        return f"{self.source.file}:{self.line} {kind}<={self.bound}" + (f" in {self.root}" if self.root else "")
 
 
 def find(file, folders):
@@ -75,16 +82,30 @@ def comments(text):
     return found, "".join([*parts, text[at:]]).split("\n")
 
 
-def bound_of(words, kind):
-    """the number of a note of a kind, none where the words are none"""
-    found = next((match for match in (note.search(words) for note in NOTES[kind]) if match), None)
-    return int(found[1]) if found and int(found[1]) <= MOST[kind] else None
+def parts_of(words):
+    """the parts of a comment, which may be several behind one another"""
+    return [part.strip() for part in words.split("//")]
+
+
+def said_by(words, kind):
+    """what the notes of a kind in a comment say, each a number and a method or none; of loops and lengths a comment has one"""
+    found = [match for part in parts_of(words) for note in NOTES[kind] for match in note.finditer(part) if int(match[1]) <= MOST[kind]]
+    return [(int(match[1]), match[2] if kind == TOTAL else None) for match in (found if kind == TOTAL else found[:1])]
 
 
 def is_attempt(words):
-    """whether a comment that is no note seems to be meant as one"""
+    """whether a part of a comment that is no note seems to be meant as one"""
     first = WORD.match(words) if re.search(r"[<=0-9]", words) else None
-    return bool(MARK.search(words)) or bool(first and difflib.get_close_matches(first[1].lower(), ("loop", "length", "wca"), 1, ALIKE))
+    return bool(MARK.search(words)) or bool(first and difflib.get_close_matches(first[1].lower(), (*NOTES, "wca"), 1, ALIKE))
+
+
+def misspelt(words):
+    """what is told of the parts of a comment that seem to be meant as notes and aren't any"""
+    for part in parts_of(words):
+        if is_attempt(part) and not any(said_by(part, kind) for kind in NOTES):
+            kind = KIND.search(part) or WORD.match(part)
+            meant = difflib.get_close_matches(kind[1].lower(), NOTES, 1, ALIKE) if kind else []
+            yield f"misspelt note `{part}`: write {WRITTEN[meant[0] if meant else LOOP]}"
 
 
 def read(source, kind=LOOP):
@@ -94,17 +115,16 @@ def read(source, kind=LOOP):
     for at, words in found:
         if "\n" in words:
             continue
-        bound, line = bound_of(words, kind), line_of(at, code)
-        if bound is not None and line is not None:
-            earlier = next((note for note in notes if note.line == line), None)
-            if earlier:
+        line = line_of(at, code)
+        for bound, root in said_by(words, kind):
+            earlier = next((note for note in notes if (note.line, note.root) == (line, root)), None)
+            if line is None:
+                faults.append((at, "a note without a line of code behind it"))
+            elif earlier:
                 faults.append((at, f"a second note for line {line}: the first stands on line {earlier.at}"))
             else:
-                notes.append(Note(source, at, line, bound))
-        elif bound is not None:
-            faults.append((at, "a note without a line of code behind it"))
-        elif is_attempt(words) and not any(bound_of(words, each) is not None for each in NOTES):
-            faults.append((at, f"misspelt note `{words}`: write `@WCA loop=N` or `@ loop <= N`"))
+                notes.append(Note(source, at, line, bound, root))
+        faults += [(at, text) for text in misspelt(words)]
     return notes, faults
 
 

@@ -5,6 +5,7 @@ from jinja2 import Environment, FileSystemLoader, StrictUndefined
 from markupsafe import Markup
 
 from . import listing, messages, pictures
+from .answers import claimed, is_checked
 from .titles import Titles
 from .words import USUAL
 
@@ -51,6 +52,8 @@ class Drawn:
     def __init__(self, method, record, sources):
         self.record, self.method = record, method
         self.anchor, self.dearest = f"m{method['number']}", dearest(method)
+        self.by_facts, self.claimed, self.is_checked = method.get("by_facts"), claimed(method), is_checked(method)
+        self.facts = [fact for fact in (record.get("facts") or {}).get("lines", []) if fact["method"] == method["method"]]
         self.loops = [loop for loop in record["loops"] if loop["method"] == method["method"]]
         self.source = sources.get(method["file"])
         self.rows = listing.rows(method, [each for each in record["methods"] if each["own"]], self.source) if self.source else []
@@ -88,6 +91,10 @@ class Drawn:
         """the rows of its report that aren't shown in its listing, the greatest first"""
         shown = {row["line"] for row in self.rows if row["row"]}
         return [row for row in self.report["rows"] if row["method"] != self.method["method"] or row["file"] is None or row["at"] not in shown]
+
+    def prices_of(self, fact):
+        """the prices of a fact of its own in its certificate: what a visit gives back"""
+        return [each for each in (self.by_facts or {}).get("prices", ()) if (each["node"], each["per"]) == (fact["node"], fact["per"]) and not fact["root"]]
 
     def callees(self):
         """what it calls, each once, with the lines of the calls"""

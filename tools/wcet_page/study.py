@@ -10,6 +10,7 @@ from . import adapting, against, answers, executive, premises, programs, refusal
 from .calls import step
 from .classes import collected, digest
 from .deadlines import Deadlines
+from .facts import Facts
 from .folder import put
 from .lengths import Lengths
 from .lines import Methods
@@ -18,7 +19,7 @@ from .methods import Bounded
 
 IMAGE, NOTES, BOUNDS, SIZES = "wcet.jopi", "wcet.notes", "wcet.bounds", "wcet.sizes"
 # The form of a record.
-FORM = 3
+FORM = 4
 THREADS = min(4, os.cpu_count() or 1)
 
 
@@ -65,7 +66,7 @@ class Study:
         elif asked.adapted:
             adapting.taken_over(self)
         self.inputs = [keep("inputs", path) for path in asked.inputs]
-        self.bounds = [keep("bounds", path) for path in bounds]
+        self.bounds, self.facts_given = [keep("bounds", path) for path in bounds], [keep("facts", path) for path in asked.facts]
         self.files = {name[2:]: keep(name[2:], path) for name, path in files.items()}
         self.classes, told = collected(classes, self.kept)
         if asked.adapts:
@@ -74,7 +75,7 @@ class Study:
             self.told.remark(rule, text, place)
         self.deadlines = Deadlines(self)
         self.record["asked"] = {"methods": self.asked.methods, "source": bool(self.asked.sources)}
-        self.record["files"] = {"inputs": self.inputs, "bounds": self.bounds, **self.files}
+        self.record["files"] = {"inputs": self.inputs, "bounds": self.bounds, "facts": self.facts_given, **self.files}
         self.record["classes"] = [each.record() for each in self.classes]
 
     def adapt(self):
@@ -110,6 +111,9 @@ class Study:
         self.record["bounds"] = self.hashed(BOUNDS, command=f"jop headers {IMAGE} {NOTES} > {BOUNDS}")
         self.record["loops"] = self.premises.record()
         self.nest()
+        with step("reading facts"):
+            self.facts = Facts(self)
+        self.record["facts"] = self.facts.record
 
     def nest(self):
         """the nodes of all loops, and which loops stand in which"""
@@ -117,7 +121,7 @@ class Study:
         for loop in self.record["loops"]:
             places.setdefault(loop["method"], []).append(loop["place"])
         self.nodes = {name: self.methods.loops(self.methods.number[name], found) for name, found in places.items()}
-        found = shared.Loops(self.methods, self.premises.headers, self.nodes)
+        self.heads = found = shared.Loops(self.methods, self.premises.headers, self.nodes)
         shared.tell(self.premises.lines, self.sources, found, self.told)
         for loop, header in zip(self.record["loops"], self.premises.headers.loops):
             loop["back"] = sorted(set(found.back(header)) - {None})
@@ -167,17 +171,26 @@ class Study:
         for name, figures in answers.profile(answer).items():
             if name in by_name:
                 by_name[name]["seen"].append({"input": path, **figures})
+        steps = self.watch(path, by_name)
+        said = answers.pairs(answer.line, answer.command)
+        self.record["runs"].append({"input": path, "line": answer.line, "figures": said, "steps": steps})
+
+    def watch(self, path, by_name):
+        """counts in a trace how often loops go round, places of facts are visited, and lines are run; gives the steps of it"""
+        watched = runs.Watched(self.nodes, self.facts.watched())
         with open(os.path.join(self.folder, path), "rb") as given:
-            turns, steps, visits = runs.count(self.jop.steps(IMAGE, given), self.nodes)
+            steps = watched.count(self.jop.steps(IMAGE, given))
+        turns = watched.turns()
         for loop in self.record["loops"]:
             if key(loop) in turns:
                 loop["seen"].append({"input": path, "turns": turns[key(loop)]})
-        for name, places in visits.items():
+        for fact, most in watched.kept():
+            fact["seen"].append({"input": path, "visits": most})
+        for name, places in watched.by_method().items():
             m = self.methods.number.get(name)
             if m is not None and "visited" in by_name.get(name, ()):
                 by_name[name]["visited"].append({"input": path, "lines": runs.by_line(places, lambda place, m=m: self.methods.line(m, place))})
-        said = answers.pairs(answer.line, answer.command)
-        self.record["runs"].append({"input": path, "line": answer.line, "figures": said, "steps": steps})
+        return steps
 
     # ---- memory
 

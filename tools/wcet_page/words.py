@@ -15,7 +15,7 @@ NUMBERS = {**RUN, **MORE}
 # Options with the names of the files that they take, at most once each.
 FILES = ("--sizes", "--report", "--deadlines", "--against", "--table")
 ONCE = ("--main", *FILES, "--out", "--sarif", "--jop", "--config", "--check")
-OFTEN = ("--source", "--bounds", "--input", "--method")
+OFTEN = ("--source", "--bounds", "--input", "--method", "--facts")
 # Options without a value.
 FLAGS = ("--adapt", "--assert")
 # How alike a name is to one that may be meant.
@@ -41,7 +41,7 @@ class Asked:
             self.fill()
         self.main, self.sarif = self.once.get("--main"), self.once.get("--sarif")
         self.files = {name: self.once[name] for name in FILES if name in self.once}
-        self.sources, self.bounds, self.inputs, self.methods = (self.often[name] for name in OFTEN)
+        self.sources, self.bounds, self.inputs, self.methods, self.facts = (self.often[name] for name in OFTEN)
         self.options = {name: value for name, value in self.numbers.items() if name in RUN}
         self.adapts, self.asserts, self.adapted = "--adapt" in self.flags, "--assert" in self.flags, None
         self.rounds, self.elements = self.numbers.get("--rounds"), self.numbers.get("--elements")
@@ -103,7 +103,7 @@ class Asked:
             raise WrongWords("--elements and --assert go with --adapt")
         if "--adapt" in self.flags and "--report" in self.files:
             raise WrongWords("--adapt makes the report itself: leave --report out")
-        for path in [*self.classes, *self.sources, *self.bounds, *self.inputs, *self.files.values()]:
+        for path in [*self.classes, *self.sources, *self.bounds, *self.inputs, *self.facts, *self.files.values()]:
             if not os.path.exists(path):
                 raise WrongWords(f"{path}: not found")
 
